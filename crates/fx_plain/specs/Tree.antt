@@ -1,0 +1,45 @@
+-- The plain tree: what lies at each path.
+use Rattle.std.specs.Prelude.{◌≡◌, ℕ, ◌-◌, List, [], ◌∷◌, ◌++◌, Some, sum_by}
+use Rattle.std.specs.declared.cmp.Ordering.{Ordering}
+use Rattle.std.specs.Cmp.Lexicographic.{slice_cmp}
+use Rattle.std.specs.FinMap as map
+use Rattle.std.specs.FinSet as set
+use Rattle.fx_item.specs.Name.{name_cmp}
+use Rattle.fx_item.specs.declared.Sizes.{Sizes}
+use Rattle.fx_plain.specs.Node.{Attributes, Node, Dir, File, empty_dir}
+
+-- paths name by name
+abbrev pub path_cmp : List (List ℕ) → List (List ℕ) → Ordering
+path_cmp = slice_cmp name_cmp
+
+abbrev pub Tree : Type 0
+Tree = map.FinMap path_cmp Node
+
+-- the root alone
+abbrev pub root : Tree
+root = map.insert map.empty [] empty_dir
+
+-- a directory lies at the path
+abbrev pub IsDirAt : Tree → List (List ℕ) → Type 0
+IsDirAt tree path = (attributes : Attributes) × (map.get tree path ≡ Some (Dir attributes))
+
+-- the root is a directory without attributes, and whatever a path goes through is a directory
+pub record IsTree (tree : Tree) : Type 0 where
+  pub top : map.get tree [] ≡ Some empty_dir
+  pub above : (path : List (List ℕ)) (name : List ℕ) (node : Node) → map.get tree (path ++ name ∷ []) ≡ Some node → IsDirAt tree path
+
+abbrev pub attribute_count : Node → ℕ
+attribute_count (Dir attributes) = map.len attributes
+attribute_count (File contents attributes) = map.len attributes
+
+abbrev pub held_count : Node → ℕ
+held_count (Dir attributes) = 0
+held_count (File contents attributes) = set.len contents.held
+
+-- nodes but the root, attributes, and held blocks
+abbrev pub sizes_of : Tree → Sizes
+sizes_of tree = record {
+  nodes = map.len tree - 1;
+  attributes = sum_by attribute_count (map.values tree);
+  blocks = sum_by held_count (map.values tree);
+}

@@ -1,0 +1,103 @@
+//! The steps of a script, and what they answer.
+ghost use Rattle.std.specs.Prelude.{◌≡◌};
+
+use crate::path::Path;
+use fx_item::Bytes;
+use std::alloc::AllocError;
+use std::marker::Model;
+
+/// One thing that a script asks of the tree.
+#[derive(Debug, Drop)]
+pub enum Step {
+    /// Makes a directory.
+    Mkdir { path: Path },
+    /// Makes an empty file.
+    Create { path: Path },
+    /// Puts the text into a file, from byte `at` on.
+    Write { path: Path, at: u32, text: Bytes },
+    /// Reads at most `count` bytes of a file, from byte `at` on.
+    Read { path: Path, at: u32, count: u32 },
+}
+
+/// The same step in memory of its own. Costs its bytes.
+impl Clone for Step {
+    ghost is_clone = { λ x y. y ≡ x };
+
+    fn clone(&self) -> Result<Step, AllocError> {
+        match self {
+            Step::Mkdir { path } => Ok(Step::Mkdir {
+                path: path.clone()?,
+            }),
+            Step::Create { path } => Ok(Step::Create {
+                path: path.clone()?,
+            }),
+            Step::Write { path, at, text } => Ok(Step::Write {
+                path: path.clone()?,
+                at: *at,
+                text: text.clone()?,
+            }),
+            Step::Read { path, at, count } => Ok(Step::Read {
+                path: path.clone()?,
+                at: *at,
+                count: *count,
+            }),
+        }
+    }
+}
+
+/// Steps, one after another.
+#[derive(Debug, Drop)]
+pub struct Steps {
+    items: Vec<Step>,
+}
+
+impl Model for Steps {
+    ghost use Rattle.std.specs.Prelude.{List};
+    ghost use Rattle.fx_plain.specs.declared.step.Step.{Step};
+
+    ghost Value = { List Step };
+
+    ghost view = { λ s. s.items.items };
+}
+
+impl Steps {
+    /// These steps.
+    pub fn new(items: Vec<Step>) -> Steps
+        ensures { result ≡ items.items }
+    {
+        Steps { items }
+    }
+
+    /// The steps as a slice.
+    pub fn as_slice(&self) -> &[Step]
+        ensures { result.now ≡ self.now }
+    {
+        self.items.as_slice()
+    }
+}
+
+/// What a step that was done answers.
+#[derive(Debug, Drop)]
+pub enum Answer {
+    /// The tree changed as the step says.
+    Done,
+    /// Bytes of a file.
+    Text(Bytes),
+}
+
+/// Why a step was refused; the tree is as before it.
+#[derive(Clone, Copy, Debug, PartialEq, Eq)]
+pub enum Refusal {
+    /// Nothing lies at the path, or at a directory on the way to it.
+    NotFound,
+    /// A file stands on the way.
+    NotDir,
+    /// The path names a directory where a file is wanted.
+    IsDir,
+    /// Something lies at the path already.
+    Exists,
+    /// A file would be a volume: its path is the root or has one name.
+    NotVolume,
+    /// A file would be longer than 16,777,216 bytes, or a read than 1,048,576.
+    TooLong,
+}
