@@ -1,0 +1,5 @@
+pub mod Paths
+pub mod Views
+pub mod Marks
+pub mod Files
+pub mod Walks
