@@ -1,0 +1,12 @@
+use Rattle.std.proofs.Common.{◌≡◌, length}
+use Rattle.fx_io.proofs.Pieces.{Written}
+use Rattle.fx_io.proofs.sink.write_whole.Given as goal
+
+abbrev pub invariant-loop-rest : goal.invariant-loop-rest
+invariant-loop-rest g l = record {
+  written : Written (g.K.Sink.text l.fn.out) (g.K.Sink.text l.out) l.fn.text l.rest;
+  unfailed : g.K.Sink.fault_count l.out ≡ g.K.Sink.fault_count l.fn.out;
+}
+
+abbrev pub decreases-loop-rest : goal.decreases-loop-rest
+decreases-loop-rest g l = length l.rest

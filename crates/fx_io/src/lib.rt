@@ -1,0 +1,19 @@
+//! Where bytes come from and where they go: sources and sinks, the calls that read or write a whole
+//! text, ends in memory that fail on demand, and the standard streams.
+#![tactic(auto)]
+
+mod memory;
+mod sink;
+mod source;
+#[cfg(test)]
+mod tests;
+
+pub use memory::{MemSink, MemSource};
+pub use sink::{Sink, write_whole};
+pub use source::{ReadAllFault, Source, read_whole};
+use thiserror::Error;
+
+/// A call of a source or a sink failed, and the object counted it.
+#[derive(Clone, Copy, Debug, PartialEq, Eq, Error)]
+#[error("a call of a source or a sink failed")]
+pub struct Failed;

@@ -1,0 +1,90 @@
+//! Where bytes come from.
+ghost use Rattle.std.specs.Prelude.{◌≡◌, ◌≢◌, ℕ, ◌+◌, ◌<◌, ◌≤◌, List, Option, length, take, IfOk, OnOk, OnErr, IsErrOf, Err};
+ghost use Rattle.std.specs.Io.KnownBytes.{IsAtEnd};
+ghost use Rattle.fx_base.specs.Causes.{Rose};
+ghost use Rattle.fx_io.specs.Told.{Gives, GivesCount, GivesAtMost};
+
+use super::Failed;
+use fx_item::Bytes;
+use std::alloc::Global;
+use thiserror::Error;
+
+/// How many bytes `read_whole` asks for at a time.
+const PIECE: usize = 16_384;
+
+/// Where bytes come from. Its calls take no memory.
+pub trait Source {
+    /// The bytes that are left, where the source tells them.
+    ghost left: { Self → Option (List ℕ) };
+
+    /// The number that `faults` gives.
+    ghost fault_count: { Self → ℕ };
+
+    /// Puts the next bytes at the front of `into` and says how many they are; 0 is the end.
+    /// `Failed` takes nothing, and is counted.
+    fn read(&mut self, into: &mut [u8]) -> Result<usize, Failed>
+        requires { 0 < length into.old }
+        ensures count { IfOk result (λ n. n ≤ length into.new) }
+        ensures gives { IfOk result (λ n. Gives (left self.old) (left self.new) (take n into.new)) }
+        ensures ended { IfOk result (λ n. n ≡ 0 → IsAtEnd (left self.new)) }
+        ensures kept { OnErr result (left self.new ≡ left self.old) }
+
+        // The count rises where a call fails, and nowhere else.
+        ensures failed { OnErr result (Rose (fault_count self.old) (fault_count self.new)) }
+        ensures unfailed { OnOk result (fault_count self.new ≡ fault_count self.old) }
+        ensures grows { fault_count self.old ≤ fault_count self.new };
+
+    /// How many calls have failed; it stops at `u64::MAX`.
+    fn faults(&self) -> u64
+        ensures { result ≡ fault_count self.now };
+}
+
+/// Why a source was not read to its end.
+#[derive(Clone, Copy, Debug, PartialEq, Eq, Error)]
+pub enum ReadAllFault {
+    /// A call of the source failed.
+    #[error("a call of the source failed")]
+    Failed,
+    /// The source gave more bytes than the limit.
+    #[error("the source gave too many bytes")]
+    TooMuch,
+    /// There was no memory for the bytes.
+    #[error("out of memory")]
+    OutOfMemory,
+}
+
+/// All bytes of the source to its end, at most `limit` of them. Takes `limit + 1` bytes at most, also
+/// where it is refused; those bytes are then lost. Its memory grows by doubling, so the time is that
+/// of the number of bytes.
+pub fn read_whole<S: Source>(alloc: Global, src: &mut S, limit: u32) -> Result<Bytes, ReadAllFault>
+    ensures whole { IfOk result (λ text. Gives (S.left src.old) (S.left src.new) text) }
+    ensures ended { OnOk result (IsAtEnd (S.left src.new)) }
+    ensures within { IfOk result (λ text. length text ≤ limit) }
+    ensures most { GivesAtMost (S.left src.old) (S.left src.new) (limit + 1) }
+    ensures too_much { IsErrOf result ReadAllFault.TooMuch
+        → GivesCount (S.left src.old) (S.left src.new) (limit + 1) }
+
+    // The count rises where a call fails, and nowhere else.
+    ensures failed { IsErrOf result ReadAllFault.Failed
+        → Rose (S.fault_count src.old) (S.fault_count src.new) }
+    ensures unfailed { result ≢ Err ReadAllFault.Failed
+        → S.fault_count src.new ≡ S.fault_count src.old }
+    ensures grows { S.fault_count src.old ≤ S.fault_count src.new }
+{
+    let most = limit as usize;
+    let mut text = Vec::new(alloc);
+    let mut buffer = [0u8; PIECE];
+    while text.len() <= most {
+        let room = (most + 1 - text.len()).min(PIECE);
+        let Ok(count) = src.read(&mut buffer[..room]) else {
+            return Err(ReadAllFault::Failed);
+        };
+        if count == 0 {
+            return Ok(Bytes::new(text));
+        }
+        if text.extend_from_slice(&buffer[..count]).is_err() {
+            return Err(ReadAllFault::OutOfMemory);
+        }
+    }
+    Err(ReadAllFault::TooMuch)
+}
