@@ -1,0 +1,57 @@
+//! Why a line is refused.
+ghost use Rattle.std.specs.Prelude.{◌≡◌};
+ghost use Rattle.fx_script.specs.declared.fault.LineFault.TheVariants.{OutOfMemory};
+
+use std::alloc::{AllocError, AllocFailed};
+use thiserror::Error;
+
+/// Why a line was not read: the first fault in this order, but for `OutOfMemory`, which may come at any line.
+#[derive(Clone, Copy, Debug, PartialEq, Eq, Drop, Error)]
+pub enum LineFault {
+    /// The line comes after line 65,536.
+    #[error("a script has at most 65,536 lines")]
+    TooManyLines,
+    /// A byte of the line is above 127.
+    #[error("a byte is not ASCII")]
+    NotAscii,
+    /// The line says nothing.
+    #[error("the line is empty")]
+    Empty,
+    /// The line does not begin with a client, a number from 1 to 16.
+    #[error("the client is no number from 1 to 16")]
+    BadClient,
+    /// The first word names nothing that can be done.
+    #[error("the first word is not known")]
+    UnknownWord,
+    /// There are more or fewer words than belong to the first one.
+    #[error("the number of words is wrong")]
+    WordCount,
+    /// A word is no path.
+    #[error("a path is wrong")]
+    BadPath,
+    /// A word is no number, or it is above 4,294,967,295.
+    #[error("a number is wrong")]
+    BadNumber,
+    /// A text is empty.
+    #[error("a text is wrong")]
+    BadText,
+    /// Memory ran out.
+    #[error("out of memory")]
+    OutOfMemory,
+}
+
+impl From<AllocError> for LineFault {
+    ghost from_gives = { λ _ fault. fault ≡ OutOfMemory };
+
+    fn from(_error: AllocError) -> LineFault {
+        LineFault::OutOfMemory
+    }
+}
+
+impl<T: Drop> From<AllocFailed<T>> for LineFault {
+    ghost from_gives = { λ _ fault. fault ≡ OutOfMemory };
+
+    fn from(_error: AllocFailed<T>) -> LineFault {
+        LineFault::OutOfMemory
+    }
+}

@@ -1,0 +1,94 @@
+//! What one word of a line stands for.
+ghost use Rattle.std.specs.Prelude.{◌≡◌};
+ghost use Rattle.std.specs.List.{list_all};
+ghost use Rattle.std.specs.Char.{is_ascii_digit};
+ghost use Rattle.fx_script.specs.Word.{is_decimal, number_of, text_of, name_of, path_of, names_of, few_names_of};
+ghost use Rattle.fx_script.specs.Line.{IsUnlessMemory};
+ghost use Rattle.fx_script.specs.Cut.{cut};
+
+use crate::fault::LineFault;
+use crate::pieces::Pieces;
+use fx_item::{Bytes, Name, is_name};
+use fx_plain::{MAX_NAMES, Path};
+use percent_encoding::percent_decode;
+use std::alloc::Global;
+use std::str;
+
+/// Whether each byte is a digit.
+fn are_digits(word: &[u8]) -> bool
+    ensures { result ≡ list_all is_ascii_digit word.now }
+{
+    word.iter().all(|b| b.is_ascii_digit())
+}
+
+/// Whether the word is `0`, or digits without a leading zero.
+fn is_decimal(word: &[u8]) -> bool
+    ensures { result ≡ is_decimal word.now }
+{
+    !word.is_empty() && are_digits(word) && (word.len() == 1 || word[0] != b'0')
+}
+
+/// The number that the word is.
+pub fn read_number(word: &[u8]) -> Result<u32, LineFault>
+    ensures { result ≡ number_of word.now }
+{
+    if !is_decimal(word) {
+        return Err(LineFault::BadNumber);
+    }
+    let Ok(digits) = str::from_utf8(word) else {
+        return Err(LineFault::BadNumber);
+    };
+    match digits.parse::<u32>() {
+        Ok(number) => Ok(number),
+        Err(_) => Err(LineFault::BadNumber),
+    }
+}
+
+/// The text that the word stands for.
+pub fn read_text(alloc: Global, word: &[u8]) -> Result<Bytes, LineFault>
+    ensures { IsUnlessMemory result (text_of word.now) }
+{
+    if word.is_empty() {
+        return Err(LineFault::BadText);
+    }
+    let mut bytes = Vec::new(alloc);
+    percent_decode(word).append_to(&mut bytes)?;
+    Ok(Bytes::new(bytes))
+}
+
+/// The name that a piece of a path stands for.
+fn read_name(alloc: Global, piece: &[u8]) -> Result<Name, LineFault>
+    ensures { IsUnlessMemory result (name_of piece.now) }
+{
+    let mut letters = Vec::new(alloc);
+    percent_decode(piece).append_to(&mut letters)?;
+    if !is_name(letters.as_slice()) {
+        return Err(LineFault::BadPath);
+    }
+    Ok(Name::new(letters))
+}
+
+/// The names between the slashes of what stands below the root.
+fn read_names(alloc: Global, text: &[u8]) -> Result<Path, LineFault>
+    ensures { IsUnlessMemory result (few_names_of (cut 47 text.now)) }
+{
+    let mut names = Vec::new(alloc);
+    for piece in Pieces::new(text, b'/') {
+        if names.len() == MAX_NAMES {
+            return Err(LineFault::BadPath);
+        }
+        names.push(read_name(alloc, piece)?)?;
+    }
+    Ok(Path::new(names))
+}
+
+/// The path that the word stands for.
+pub fn read_path(alloc: Global, word: &[u8]) -> Result<Path, LineFault>
+    ensures { IsUnlessMemory result (path_of word.now) }
+{
+    match word.split_first() {
+        Some((b'/', [])) => Ok(Path::new(Vec::new(alloc))),
+        Some((b'/', below)) => read_names(alloc, below),
+        _ => Err(LineFault::BadPath),
+    }
+}
