@@ -5,12 +5,14 @@
 mod memory;
 mod sink;
 mod source;
+mod standard;
 #[cfg(test)]
 mod tests;
 
 pub use memory::{MemSink, MemSource};
 pub use sink::{Sink, write_whole};
 pub use source::{ReadAllFault, Source, read_whole};
+pub use standard::{StdSink, StdSource};
 use thiserror::Error;
 
 /// A call of a source or a sink failed, and the object counted it.
