@@ -3,7 +3,8 @@ use Rattle.std.proofs.Common.{◌≡◌, ◌≢◌, ℕ, suc, ◌+◌, ◌-◌, 
 use Rattle.std.proofs.Math.ListN.{length-replicate}
 use Rattle.std.specs.List.{range_with_len}
 use Rattle.std.specs.FinSet as set
-use Rattle.fx_plain.specs.Node.{block_bytes, grown, overwritten, written}
+use Rattle.fx_plain.specs.Node.{grown, overwritten, written}
+use Rattle.fx_plain.specs.declared.contents.TheConstants.{BLOCK_BYTES}
 use Rattle.fx_plain.specs.Memory.{marked}
 use Rattle.fx_plain.proofs.Marks.{marked-append, marked-set}
 
@@ -17,16 +18,16 @@ marks_added first n marks =
     ∙ ap (λ held. set.union held (set.from_list (range_with_len first n))) (marked-append marks (first + n - length marks))
 
 -- what is seen of the bytes and the marks once a text is put at `at`, where `past` is the first block past it
-pub write_seen : (at : ℕ) (text bytes : List ℕ) (marks : List Bool) (past : ℕ) → text ≢ [] → past ≡ (at + length text - 1) / block_bytes + 1
+pub write_seen : (at : ℕ) (text bytes : List ℕ) (marks : List Bool) (past : ℕ) → text ≢ [] → past ≡ (at + length text - 1) / BLOCK_BYTES + 1
     → (let more = marks ++ replicate (past - length marks) false in
-    record { bytes = overwritten at text (grown (at + length text) bytes); held = marked (take (at / block_bytes) more ++ replicate (past - at / block_bytes) true ++ drop past more) })
+    record { bytes = overwritten at text (grown (at + length text) bytes); held = marked (take (at / BLOCK_BYTES) more ++ replicate (past - at / BLOCK_BYTES) true ++ drop past more) })
     ≡ written at text (record { bytes = bytes; held = marked marks })
 write_seen at [] bytes marks past some e = absurd (some refl)
 write_seen at (b ∷ bs) bytes marks past some e =
-    let n = (at + length bs) / block_bytes + 1 - at / block_bytes in
+    let n = (at + length bs) / BLOCK_BYTES + 1 - at / BLOCK_BYTES in
     let last : at + suc (length bs) - 1 ≡ at + length bs = omega arith in
-    let ends : past ≡ (at + length bs) / block_bytes + 1 = rw last at e in
-    let spans : at / block_bytes + n ≡ past = omega arith in
+    let ends : past ≡ (at + length bs) / BLOCK_BYTES + 1 = rw last at e in
+    let spans : at / BLOCK_BYTES + n ≡ past = omega arith in
     subst (λ p. (let more = marks ++ replicate (p - length marks) false in
-    record { bytes = overwritten at (b ∷ bs) (grown (at + suc (length bs)) bytes); held = marked (take (at / block_bytes) more ++ replicate (p - at / block_bytes) true ++ drop p more) }) ≡ written at (b ∷ bs) (record { bytes = bytes; held = marked marks }))
-    spans (λ i. record { bytes = overwritten at (b ∷ bs) (grown (at + suc (length bs)) bytes); held = marks_added (at / block_bytes) n marks i })
+    record { bytes = overwritten at (b ∷ bs) (grown (at + suc (length bs)) bytes); held = marked (take (at / BLOCK_BYTES) more ++ replicate (p - at / BLOCK_BYTES) true ++ drop p more) }) ≡ written at (b ∷ bs) (record { bytes = bytes; held = marked marks }))
+    spans (λ i. record { bytes = overwritten at (b ∷ bs) (grown (at + suc (length bs)) bytes); held = marks_added (at / BLOCK_BYTES) n marks i })

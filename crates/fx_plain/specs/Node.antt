@@ -5,6 +5,7 @@ use Rattle.std.specs.Ordering.{nat_cmp}
 use Rattle.std.specs.FinMap as map
 use Rattle.std.specs.FinSet as set
 use Rattle.fx_item.specs.Name.{name_cmp}
+use Rattle.fx_plain.specs.declared.contents.TheConstants.{BLOCK_BYTES}
 
 -- values by their names
 abbrev pub Attributes : Type 0
@@ -29,10 +30,6 @@ empty_dir = Dir map.empty
 abbrev pub empty_file : Node
 empty_file = File (record { bytes = []; held = set.empty }) map.empty
 
--- the bytes of a block
-abbrev pub block_bytes : ℕ
-block_bytes = 4096
-
 -- the bytes with zeros behind them, at least n
 abbrev pub grown : ℕ → List ℕ → List ℕ
 grown n bytes = bytes ++ replicate (n - length bytes) 0
@@ -44,7 +41,7 @@ overwritten at text bytes = take at bytes ++ text ++ drop (at + length text) byt
 -- the blocks that hold a byte of the text, where it stands from `at` on
 abbrev pub covered : ℕ → List ℕ → List ℕ
 covered at [] = []
-covered at (b ∷ bs) = range_with_len (at / block_bytes) ((at + length bs) / block_bytes + 1 - at / block_bytes)
+covered at (b ∷ bs) = range_with_len (at / BLOCK_BYTES) ((at + length bs) / BLOCK_BYTES + 1 - at / BLOCK_BYTES)
 
 -- the file with the text from `at` on: it grows with zeros as needed, and the covered blocks are held
 abbrev pub written : ℕ → List ℕ → Contents → Contents

@@ -1,22 +1,15 @@
 -- What each step answers on a tree, and the tree after it.
-use Rattle.std.specs.Prelude.{ℕ, ◌+◌, List, [], ◌∷◌, ◌++◌, Option, None, Some, Result, Ok, Err, if◌then◌else◌, nat_lt, length, take, drop}
+use Rattle.std.specs.Prelude.{ℕ, ◌+◌, Bool, true, false, List, [], ◌∷◌, ◌++◌, Option, None, Some, Result, Ok, Err, if◌then◌else◌, nat_lt, length, take, drop}
 use Rattle.std.specs.FinMap.{get, insert}
 use Rattle.fx_plain.specs.Node.{Node, Dir, File, empty_dir, empty_file, written}
 use Rattle.fx_plain.specs.Tree.{Tree}
+use Rattle.fx_plain.specs.declared.contents.TheConstants.{MAX_FILE, MAX_READ}
 use Rattle.fx_plain.specs.declared.step.Step.{Step}
 use Rattle.fx_plain.specs.declared.step.Step.TheVariants.{Mkdir, Create, Write, Read}
 use Rattle.fx_plain.specs.declared.step.Answer.{Answer}
 use Rattle.fx_plain.specs.declared.step.Answer.TheVariants.{Done, Text}
 use Rattle.fx_plain.specs.declared.step.Refusal.{Refusal}
 use Rattle.fx_plain.specs.declared.step.Refusal.TheVariants.{NotFound, NotDir, IsDir, Exists, NotVolume, TooLong}
-
--- the most bytes of a file
-abbrev pub max_file : ℕ
-max_file = 16777216
-
--- the most bytes of one read
-abbrev pub max_read : ℕ
-max_read = 1048576
 
 -- what stands in the way where a path goes through a directory: there is none, or it is a file
 abbrev pub obstacle : Option Node → Option Refusal
@@ -58,7 +51,7 @@ write_at tree path at text (Some refusal) there = (Err refusal, tree)
 write_at tree path at text None None = (Err NotFound, tree)
 write_at tree path at text None (Some (Dir attributes)) = (Err IsDir, tree)
 write_at tree path at text None (Some (File contents attributes)) =
-    if nat_lt max_file (at + length text) then (Err TooLong, tree) else (Ok Done, insert tree path (File (written at text contents) attributes))
+    if nat_lt MAX_FILE (at + length text) then (Err TooLong, tree) else (Ok Done, insert tree path (File (written at text contents) attributes))
 
 -- the bytes of a file from `at` on, at most `count` and none past its end
 abbrev pub read_at : ℕ → ℕ → Option Refusal → Option Node → Result Answer Refusal
@@ -66,7 +59,7 @@ read_at at count (Some refusal) there = Err refusal
 read_at at count None None = Err NotFound
 read_at at count None (Some (Dir attributes)) = Err IsDir
 read_at at count None (Some (File contents attributes)) =
-    if nat_lt max_read count then Err TooLong else Ok (Text (take count (drop at contents.bytes)))
+    if nat_lt MAX_READ count then Err TooLong else Ok (Text (take count (drop at contents.bytes)))
 
 -- what a step answers, or its first refusal, and the tree after it
 abbrev pub do_step : Tree → Step → Result Answer Refusal × Tree
@@ -74,6 +67,13 @@ do_step tree (Mkdir path) = mkdir tree path
 do_step tree (Create path) = create tree path
 do_step tree (Write path at text) = write_at tree path at text (walk tree path) (get tree path)
 do_step tree (Read path at count) = (read_at at count (walk tree path) (get tree path), tree)
+
+-- the step looks at the tree and leaves it
+abbrev pub is_reading : Step → Bool
+is_reading (Mkdir path) = false
+is_reading (Create path) = false
+is_reading (Write path at text) = false
+is_reading (Read path at count) = true
 
 abbrev pub go_on : ℕ → Result Answer Refusal → Result Tree (ℕ × Refusal) → Result Tree (ℕ × Refusal)
 go_on index (Ok answer) rest = rest

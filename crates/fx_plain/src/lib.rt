@@ -6,8 +6,10 @@ mod node;
 mod path;
 mod plain;
 mod step;
+#[cfg(test)]
+mod tests;
 
 pub use contents::{BLOCK_BYTES, MAX_FILE, MAX_READ};
 pub use path::{MAX_NAMES, Path};
-pub use plain::Plain;
+pub use plain::{Plain, step_laws};
 pub use step::{Answer, Refusal, Step, Steps};

@@ -1,6 +1,7 @@
 //! What lies at a path.
 ghost use Rattle.std.specs.Prelude.{◌≡◌, ◌+◌, ◌≤◌, length, option_copied, OnOk, OnErr};
 ghost use Rattle.fx_plain.specs.Node.{empty_dir, empty_file};
+ghost use Rattle.fx_plain.specs.Tree.{attribute_count, held_count};
 ghost use Rattle.fx_plain.specs.Memory.{contents_of, written_node};
 
 use crate::contents::{Contents, MAX_FILE};
@@ -56,6 +57,26 @@ impl Node {
         match &self.kind {
             Kind::Dir => None,
             Kind::File(contents) => Some(contents),
+        }
+    }
+
+    /// How many attributes it has.
+    pub fn attributes(&self) -> usize
+        ensures { result ≡ attribute_count self.now }
+    {
+        match &self.kind {
+            Kind::Dir => 0,
+            Kind::File(_) => 0,
+        }
+    }
+
+    /// How many blocks it holds. One pass over a file's marks.
+    pub fn held(&self) -> usize
+        ensures { result ≡ held_count self.now }
+    {
+        match &self.kind {
+            Kind::Dir => 0,
+            Kind::File(contents) => contents.held(),
         }
     }
 

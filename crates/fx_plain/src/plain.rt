@@ -1,15 +1,19 @@
 //! The tree in memory, and what a step does to it.
-ghost use Rattle.std.specs.Prelude.{◌≡◌, ◌+◌, ◌≤◌, length, option_copied, None, Some, Ok, Err, OnOk, OnErr, IfOk, MatchResult};
+ghost use Rattle.std.specs.Prelude.{◌≡◌, ◌≢◌, ◌+◌, ◌^◌, ◌<◌, ◌≤◌, true, false, sum_by, length, option_copied, None, Some, Ok, Err, OnOk, OnErr, IfOk, MatchResult};
 ghost use Rattle.std.specs.FinMap as map;
 ghost use Rattle.fx_plain.specs.Node.{Node, File, Attributes, Contents, written};
-ghost use Rattle.fx_plain.specs.Tree.{root, Tree, IsTree};
-ghost use Rattle.fx_plain.specs.Table.{create, do_step, mkdir, obstacle, place, read_at, walk, write_at};
+ghost use Rattle.std.specs.BTreeMap.{values};
+ghost use Rattle.fx_plain.specs.Tree.{IsTree, Tree, attribute_count, held_count, root, sizes_of};
+ghost use Rattle.fx_plain.specs.declared.step.Step.{Step};
+ghost use Rattle.fx_plain.specs.declared.step.Answer.{Answer};
+ghost use Rattle.fx_plain.specs.declared.step.Refusal.{Refusal};
+ghost use Rattle.fx_plain.specs.Table.{create, do_step, is_reading, mkdir, obstacle, place, read_at, walk, write_at};
 ghost use Rattle.fx_plain.specs.Memory.{file_at};
 
 use crate::contents::{Contents, MAX_FILE, MAX_READ};
 use crate::node::Node;
 use crate::step::{Answer, Refusal, Step};
-use fx_item::{Bytes, Name};
+use fx_item::{Name, Sizes};
 use std::alloc::{AllocError, Global};
 use std::collections::BTreeMap;
 use std::marker::Model;
@@ -58,6 +62,20 @@ impl Plain {
             Step::Create { path } => self.create(alloc, path.as_slice()),
             Step::Write { path, at, text } => self.write(path.as_slice(), *at, text.as_slice()),
             Step::Read { path, at, count } => self.read(alloc, path.as_slice(), *at, *count),
+        }
+    }
+
+    /// What the tree holds. One pass over the nodes and the blocks of the files.
+    pub fn sizes(&self) -> Sizes
+        requires nodes { (sizes_of self.now).nodes < 2 ^ 32 }
+        requires attributes { (sizes_of self.now).attributes < 2 ^ 32 }
+        requires blocks { (sizes_of self.now).blocks < 2 ^ 32 }
+        ensures { result ≡ sizes_of self.now }
+    {
+        Sizes {
+            nodes: self.nodes.len().saturating_sub(1) as u32,
+            attributes: attributes_of(&self.nodes) as u32,
+            blocks: blocks_of(&self.nodes) as u32,
         }
     }
 
@@ -219,3 +237,31 @@ impl Plain {
         node.write(at, text)
     }
 }
+
+/// The attributes of all nodes.
+fn attributes_of(nodes: &BTreeMap<Vec<Name>, Node>) -> usize
+    requires { sum_by attribute_count (values nodes.now) < 2 ^ 32 }
+    ensures { result ≡ sum_by attribute_count (values nodes.now) }
+{
+    nodes.values().map(|node| node.attributes()).sum()
+}
+
+/// The held blocks of all files.
+fn blocks_of(nodes: &BTreeMap<Vec<Name>, Node>) -> usize
+    requires { sum_by held_count (values nodes.now) < 2 ^ 32 }
+    ensures { result ≡ sum_by held_count (values nodes.now) }
+{
+    nodes.values().map(|node| node.held()).sum()
+}
+
+/// The root alone is a tree, and so is what a step leaves of a tree. A step that is refused, and
+/// one that reads, leaves all as it was. A step that changes the tree has nothing else to answer,
+/// and one that reads always has.
+pub fn step_laws()
+    ensures root { IsTree root }
+    ensures kept { (tree : Tree) (step : Step) → IsTree tree → IsTree (do_step tree step).1 }
+    ensures refused { (tree : Tree) (step : Step) (refusal : Refusal) → (do_step tree step).0 ≡ Err refusal → (do_step tree step).1 ≡ tree }
+    ensures read { (tree : Tree) (step : Step) → is_reading step ≡ true → (do_step tree step).1 ≡ tree }
+    ensures changed { (tree : Tree) (step : Step) (answer : Answer) → is_reading step ≡ false → (do_step tree step).0 ≡ Ok answer → answer ≡ Answer.Done }
+    ensures seen { (tree : Tree) (step : Step) → is_reading step ≡ true → (do_step tree step).0 ≢ Ok Answer.Done }
+{}

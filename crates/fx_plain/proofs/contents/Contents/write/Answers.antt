@@ -1,6 +1,7 @@
 use Rattle.std.proofs.Common.{◌≢◌, ◌+◌, ◌-◌, ◌/◌, ◌++◌, length, [], true, take, drop, replicate, ap, refl, ◌∙◌, arith}
 use Rattle.std.proofs.lemmas.Result.{err_from_is_err_and}
-use Rattle.fx_plain.specs.Node.{overwritten, written, block_bytes}
+use Rattle.fx_plain.specs.Node.{overwritten, written}
+use Rattle.fx_plain.specs.declared.contents.TheConstants.{BLOCK_BYTES}
 use Rattle.fx_plain.specs.Memory.{marked}
 use Rattle.fx_plain.proofs.Marks.{marked-append}
 use Rattle.fx_plain.proofs.Files.{write_seen}
@@ -16,8 +17,8 @@ pub returns-clause-ok : goal.returns-clause-ok
 returns-clause-ok c =
     let at = c.args.at in
     let text = c.args.text.now in
-    let first = at / block_bytes in
-    let past = (at + length text - 1) / block_bytes + 1 in
+    let first = at / BLOCK_BYTES in
+    let past = (at + length text - 1) / BLOCK_BYTES + 1 in
     let some : text ≢ [] = grind arith in
     let bytes = c.put.ensures ∙ ap (overwritten at text) c.in_ok-grow-2.ensures.ok in
     let marks = c.mark.ensures ∙ ap (λ xs. take first xs ++ replicate (past - first) true ++ drop past xs) c.in_ok-grow.ensures.ok in

@@ -1,0 +1,151 @@
+//! Steps on a tree that begins as the root alone. A row is a step in words, an arrow, and what it
+//! answers: `done`, the refusal's name in small letters, or the text that is read after a `=`.
+use crate::{Answer, Path, Plain, Refusal, Step, Steps, step_laws};
+use fx_item::{Bytes, Name};
+use std::alloc::{AllocError, Global};
+use std::process::Abort;
+use std::test::Fail;
+
+const REFUSALS: &str = "mkdir /v -> done
+mkdir /v/d -> done
+create /v/f -> done
+write /v/f 0 hi -> done
+mkdir / -> exists
+mkdir /x/y -> notfound
+mkdir /x/y/z -> notfound
+mkdir /v/f/y -> notdir
+mkdir /v/f/y/z -> notdir
+mkdir /v -> exists
+mkdir /v/f -> exists
+create / -> notvolume
+create /v -> notvolume
+create /x -> notvolume
+create /x/y -> notfound
+create /v/f/y -> notdir
+create /v/f -> exists
+create /v/d -> exists
+write /x/y 16777216 x -> notfound
+write /v/f/y 16777216 x -> notdir
+write /v/x 16777216 x -> notfound
+write / 16777216 x -> isdir
+write /v/d 0 x -> isdir
+write /v/f 16777216 x -> toolong
+write /v/f 16777215 xy -> toolong
+write /v/f 4294967295 x -> toolong
+read /x/y 0 1048577 -> notfound
+read /v/f/y 0 1048577 -> notdir
+read /v/x 0 1048577 -> notfound
+read /v 0 1048577 -> isdir
+read / 0 0 -> isdir
+read /v/f 0 1048577 -> toolong
+read /v/f 0 1048576 -> =hi";
+
+const FILES: &str = "mkdir /v -> done
+create /v/a -> done
+read /v/a 0 9 -> =
+write /v/a 0 hi -> done
+read /v/a 0 9 -> =hi
+read /v/a 0 1 -> =h
+read /v/a 1 0 -> =
+read /v/a 2 9 -> =
+read /v/a 4294967295 9 -> =
+write /v/a 5 xy -> done
+read /v/a 0 9 -> =hi\0\0\0xy
+write /v/a 1 - -> done
+read /v/a 0 9 -> =h-\0\0\0xy
+create /v/b -> done
+write /v/b 4095 xy -> done
+read /v/b 4094 9 -> =\0xy
+create /v/c -> done
+write /v/c 16777215 x -> done
+write /v/c 16777216 x -> toolong
+read /v/c 16777214 9 -> =\0x";
+
+fn path_of(alloc: Global, text: &str) -> Result<Path, AllocError> {
+    let mut names = Vec::new(alloc);
+    for name in text.split('/') {
+        if !name.is_empty() {
+            names.push(Name::new(Vec::from_slice(alloc, name.as_bytes())?))?;
+        }
+    }
+    Ok(Path::new(names))
+}
+
+fn step_of(alloc: Global, text: &str) -> Result<Step, Fail> {
+    let mut words = text.split(' ');
+    let word = words.next().ok_or("no word")?;
+    let path = path_of(alloc, words.next().ok_or("no path")?)?;
+    if word == "mkdir" {
+        return Ok(Step::Mkdir { path });
+    }
+    if word == "create" {
+        return Ok(Step::Create { path });
+    }
+    let at = words.next().ok_or("no place")?.parse::<u32>()?;
+    let last = words.next().ok_or("no text or count")?;
+    if word == "write" {
+        let text = Bytes::new(Vec::from_slice(alloc, last.as_bytes())?);
+        return Ok(Step::Write { path, at, text });
+    }
+    let count = last.parse::<u32>()?;
+    Ok(Step::Read { path, at, count })
+}
+
+fn word_of(refusal: Refusal) -> &'static str {
+    match refusal {
+        Refusal::NotFound => "notfound",
+        Refusal::NotDir => "notdir",
+        Refusal::IsDir => "isdir",
+        Refusal::Exists => "exists",
+        Refusal::NotVolume => "notvolume",
+        Refusal::TooLong => "toolong",
+    }
+}
+
+fn is_wanted(answer: &Result<Answer, Refusal>, wanted: &str) -> bool {
+    match answer {
+        Ok(Answer::Done) => wanted == "done",
+        Ok(Answer::Text(text)) => match wanted.strip_prefix('=') {
+            Some(wanted) => text.as_slice() == wanted.as_bytes(),
+            None => false,
+        },
+        Err(refusal) => wanted == word_of(*refusal),
+    }
+}
+
+/// Does the step of a row.
+fn do_row(rt: &impl Abort, alloc: Global, plain: &mut Plain, row: &str) -> Result<(), Fail> {
+    let (text, wanted) = row.split_once(" -> ").ok_or("no arrow")?;
+    let answer = plain.step(alloc, &step_of(alloc, text)?)?;
+    assert!(rt; is_wanted(&answer, wanted), "at {row}");
+    Ok(())
+}
+
+#[test]
+fn steps_answer_as_the_table_says(rt: HostRuntime) -> Result<(), Fail> {
+    for table in [REFUSALS, FILES] {
+        let mut plain = Plain::new(rt.alloc())?;
+        for row in table.split('\n') {
+            do_row(&rt, rt.alloc(), &mut plain, row)?;
+        }
+    }
+    Ok(())
+}
+
+#[test]
+fn copies_are_the_same(rt: HostRuntime) -> Result<(), Fail> {
+    let path = path_of(rt.alloc(), "/v/a")?;
+    let copy = path.clone()?;
+    assert_eq!(rt; copy.as_slice(), path.as_slice());
+    let step = step_of(rt.alloc(), "mkdir /v")?;
+    let mut steps = Vec::new(rt.alloc());
+    steps.push(step.clone()?)?;
+    let steps = Steps::new(steps);
+    let mut plain = Plain::new(rt.alloc())?;
+    for step in steps.as_slice() {
+        assert!(rt; is_wanted(&plain.step(rt.alloc(), step)?, "done"));
+    }
+    assert!(rt; is_wanted(&plain.step(rt.alloc(), &step)?, "exists"));
+    step_laws();
+    Ok(())
+}
