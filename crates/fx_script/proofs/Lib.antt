@@ -1,4 +1,7 @@
 pub mod Cuts
-pub mod Numbers
+pub mod Escapes
 pub mod Names
+pub mod Numbers
+pub mod Prints
 pub mod Scripts
+pub mod Utf8

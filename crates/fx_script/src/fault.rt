@@ -1,6 +1,7 @@
 //! Why a line is refused.
 ghost use Rattle.std.specs.Prelude.{◌≡◌};
 ghost use Rattle.fx_script.specs.declared.fault.LineFault.TheVariants.{OutOfMemory};
+ghost use Rattle.fx_script.specs.Fault.{fault_word};
 
 use std::alloc::{AllocError, AllocFailed};
 use thiserror::Error;
@@ -38,6 +39,26 @@ pub enum LineFault {
     /// Memory ran out.
     #[error("out of memory")]
     OutOfMemory,
+}
+
+impl LineFault {
+    /// The word that tells the fault: its name in small letters.
+    pub fn word(self) -> &'static str
+        ensures { result.now ≡ fault_word self }
+    {
+        match self {
+            LineFault::TooManyLines => "toomanylines",
+            LineFault::NotAscii => "notascii",
+            LineFault::Empty => "empty",
+            LineFault::BadClient => "badclient",
+            LineFault::UnknownWord => "unknownword",
+            LineFault::WordCount => "wordcount",
+            LineFault::BadPath => "badpath",
+            LineFault::BadNumber => "badnumber",
+            LineFault::BadText => "badtext",
+            LineFault::OutOfMemory => "outofmemory",
+        }
+    }
 }
 
 impl From<AllocError> for LineFault {

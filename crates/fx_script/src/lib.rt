@@ -1,13 +1,20 @@
-//! The script: its lines, read from bytes.
+//! The script: its lines, read from bytes and printed.
 #![tactic(auto)]
 
+mod escape;
 mod fault;
 mod line;
 mod pieces;
+mod print;
 mod script;
 mod steps;
 mod word;
 
+pub use escape::push_escaped;
 pub use fault::LineFault;
 pub use line::{Line, read_line};
+pub use print::print_line;
 pub use script::{MAX_CLIENT, MAX_LINES, ScriptFault, Task, Tasks, read_script};
+
+#[cfg(test)]
+mod tests;

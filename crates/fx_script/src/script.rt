@@ -1,7 +1,8 @@
 //! What a script says, line by line.
-ghost use Rattle.std.specs.Prelude.{◌≡◌};
+ghost use Rattle.std.specs.Prelude.{◌≡◌, ◌≢◌, ℕ, Err};
 ghost use Rattle.fx_script.specs.Line.{IsUnlessMemory};
-ghost use Rattle.fx_script.specs.declared.script.ScriptFault.TheVariants.{OutOfMemory};
+ghost use Rattle.fx_script.specs.declared.script.ScriptFault.TheVariants.{BadLine, OutOfMemory};
+ghost use Rattle.fx_script.specs.declared.fault.LineFault.TheVariants as line_faults;
 ghost use Rattle.fx_script.specs.Script.{AreTasks, client_of, task, sent_task, task_of_words, task_of, script_of};
 
 use crate::fault::LineFault;
@@ -57,6 +58,13 @@ impl Tasks {
         ensures { result.now ≡ self.now }
     {
         self.items.as_slice()
+    }
+
+    /// The vector that holds them.
+    pub fn into_vec(self) -> Vec<Task>
+        ensures { result.items ≡ self }
+    {
+        self.items
     }
 }
 
@@ -137,6 +145,7 @@ fn read_numbered(alloc: Global, many: bool, number: u32, line: &[u8]) -> Result<
 /// fault, or where memory runs out. Costs the bytes of the script.
 pub fn read_script(alloc: Global, bytes: &[u8], many: bool) -> Result<Tasks, ScriptFault>
     ensures tasks { AreTasks result (script_of many bytes.now) }
+    ensures memory { (number : ℕ) → result ≢ Err (BadLine number line_faults.OutOfMemory) }
 {
     let mut items = Vec::new(alloc);
     let mut number = 1;
