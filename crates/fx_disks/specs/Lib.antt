@@ -1,0 +1,9 @@
+pub mod Blocks
+pub mod Zeros
+pub mod Calls
+pub mod Tracks
+pub mod Picks
+pub mod Left
+pub mod Index
+pub mod State
+pub mod Memory
