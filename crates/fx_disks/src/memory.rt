@@ -300,11 +300,11 @@ impl Disk for MemDisk {
         ensures size { length (told_of self.new).entry ≡ length (told_of self.old).entry }
         ensures told { Some (told_of self.new) ≡ Some (told_of self.old) }
         ensures calls { length (told_of self.new).calls ≡ length (told_of self.old).calls }
-        ensures last_made { self.new.last_made ≡ self.old.last_made }
-        ensures reads { self.new.reads ≡ min (self.old.reads + 1) (2 ^ 63) }
-        ensures limit { OnOk result (self.old.reads < 2 ^ 63) }
-        ensures faults { self.old.faults ≤ self.new.faults }
-        ensures fault { OnErr result (Rose self.old.faults self.new.faults) }
+        ensures last_made { (state_of self.new).last_made ≡ (state_of self.old).last_made }
+        ensures reads { (state_of self.new).reads ≡ min ((state_of self.old).reads + 1) (2 ^ 63) }
+        ensures limit { OnOk result ((state_of self.old).reads < 2 ^ 63) }
+        ensures faults { (state_of self.old).faults ≤ (state_of self.new).faults }
+        ensures fault { OnErr result (Rose (state_of self.old).faults (state_of self.new).faults) }
     {
         if self.try_read(at, into) {
             Ok(())
@@ -316,12 +316,12 @@ impl Disk for MemDisk {
     fn write(&mut self, at: u32, from: &[u8; 4096]) -> Result<(), DiskFailed>
         requires { at < length (told_of self.old).entry }
         ensures state { Asks (state_of self.old) (state_of self.new) (is_ok result) (written_record (told_of self.old) at from.now (is_ok result)) }
-        ensures told { MadeOrNot (length (told_of self.old).calls) (length (told_of self.new).calls) self.new.last_made (is_ok result)
+        ensures told { MadeOrNot (length (told_of self.old).calls) (length (told_of self.new).calls) (state_of self.new).last_made (is_ok result)
             (Writes (Some (told_of self.old)) (Some (told_of self.new)) at from.now (is_ok result)) (Some (told_of self.new) ≡ Some (told_of self.old)) }
         ensures size { length (told_of self.new).entry ≡ length (told_of self.old).entry }
-        ensures reads { self.new.reads ≡ self.old.reads }
-        ensures faults { self.old.faults ≤ self.new.faults }
-        ensures fault { OnErr result (Rose self.old.faults self.new.faults) }
+        ensures reads { (state_of self.new).reads ≡ (state_of self.old).reads }
+        ensures faults { (state_of self.old).faults ≤ (state_of self.new).faults }
+        ensures fault { OnErr result (Rose (state_of self.old).faults (state_of self.new).faults) }
     {
         if self.try_write(at, from) {
             Ok(())
@@ -332,12 +332,12 @@ impl Disk for MemDisk {
 
     fn flush(&mut self) -> Result<(), DiskFailed>
         ensures state { Asks (state_of self.old) (state_of self.new) (is_ok result) (with_flush (told_of self.old) (is_ok result)) }
-        ensures told { MadeOrNot (length (told_of self.old).calls) (length (told_of self.new).calls) self.new.last_made (is_ok result)
+        ensures told { MadeOrNot (length (told_of self.old).calls) (length (told_of self.new).calls) (state_of self.new).last_made (is_ok result)
             (Flushes (Some (told_of self.old)) (Some (told_of self.new)) (is_ok result)) (Some (told_of self.new) ≡ Some (told_of self.old)) }
         ensures size { length (told_of self.new).entry ≡ length (told_of self.old).entry }
-        ensures reads { self.new.reads ≡ self.old.reads }
-        ensures faults { self.old.faults ≤ self.new.faults }
-        ensures fault { OnErr result (Rose self.old.faults self.new.faults) }
+        ensures reads { (state_of self.new).reads ≡ (state_of self.old).reads }
+        ensures faults { (state_of self.old).faults ≤ (state_of self.new).faults }
+        ensures fault { OnErr result (Rose (state_of self.old).faults (state_of self.new).faults) }
     {
         if self.try_flush() {
             Ok(())
