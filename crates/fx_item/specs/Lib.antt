@@ -1,1 +1,5 @@
 pub mod Name
+pub mod Item
+pub mod Order
+pub mod Overlay
+pub mod Reading

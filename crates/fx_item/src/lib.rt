@@ -2,10 +2,17 @@
 #![tactic(auto)]
 
 mod bytes;
+mod item;
 mod name;
+mod order;
+mod reading;
+mod writing;
 
 pub use bytes::Bytes;
+pub use item::{Item, ItemFault, Items, Key, Value};
 pub use name::{MAX_NAME, Name, is_name};
+pub use reading::decode;
+pub use writing::{encode, encoded_len};
 
 /// What a tree holds, the root not counted.
 #[derive(Clone, Copy, Debug, PartialEq, Eq)]
@@ -17,3 +24,6 @@ pub struct Sizes {
     /// Held blocks of all files.
     pub blocks: u32,
 }
+
+#[cfg(test)]
+mod tests;
