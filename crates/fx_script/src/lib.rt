@@ -15,6 +15,7 @@ pub use fault::LineFault;
 pub use line::{Line, read_line};
 pub use print::print_line;
 pub use script::{MAX_CLIENT, MAX_LINES, ScriptFault, Task, Tasks, read_script};
+pub use word::read_number;
 
 #[cfg(test)]
 mod tests;

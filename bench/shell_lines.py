@@ -1,0 +1,42 @@
+"""The time of a long script against that of one a tenth as long, in one run of each.
+
+One directory, then as many creates, writes of 100 bytes and reads. The greatest ratio of five rounds
+is printed: a program whose lines cost the same at any length has about 10.
+"""
+import os
+import subprocess
+import time
+
+TOP = os.path.dirname(os.path.dirname(os.path.abspath(__file__)))
+PROGRAM = os.path.join(TOP, "fxfs")
+
+
+def script(files):
+    text = "x" * 100
+    lines = ["mkdir /v"]
+    lines += [f"create /v/f{i}" for i in range(files)]
+    lines += [f"write /v/f{i} 0 {text}" for i in range(files)]
+    lines += [f"read /v/f{i} 0 100" for i in range(files)]
+    return ("\n".join(lines) + "\n").encode()
+
+
+def seconds(text):
+    start = time.perf_counter()
+    done = subprocess.run([PROGRAM, "mem:2048", "shell"], input=text, stdout=subprocess.PIPE, check=True)
+    spent = time.perf_counter() - start
+    assert done.stdout.count(b"\n") == text.count(b"\n")
+    return spent
+
+
+def main():
+    short, long = script(2000), script(20000)
+    seconds(short)
+    rounds = []
+    for _ in range(5):
+        rounds.append((seconds(long), seconds(short)))
+    ratios = [a / b for a, b in rounds]
+    print(f"60,001 lines take {max(ratios):.1f} times as long as 6,001 at most, {min(ratios):.1f} at least (10 is linear)")
+
+
+if __name__ == "__main__":
+    main()

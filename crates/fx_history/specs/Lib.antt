@@ -1,0 +1,4 @@
+pub mod Outcome
+pub mod History
+pub mod Transcript
+pub mod Text

@@ -1,0 +1,46 @@
+-- What is printed for a line.
+use Rattle.std.specs.Prelude.{ℕ, List, [], ◌∷◌, ◌++◌, codes, length}
+use Rattle.std.specs.Fmt.{decimal}
+use Rattle.fx_plain.specs.declared.step.Answer.TheVariants as answers
+use Rattle.fx_plain.specs.declared.step.Refusal.{Refusal}
+use Rattle.fx_plain.specs.declared.step.Refusal.TheVariants as refusals
+use Rattle.fx_script.specs.Escape.{escaped}
+use Rattle.fx_script.specs.declared.script.Task.{Task}
+use Rattle.fx_history.specs.declared.outcome.EndKind.{EndKind}
+use Rattle.fx_history.specs.declared.outcome.EndKind.TheVariants as ends
+use Rattle.fx_history.specs.Outcome.{LineEnd}
+
+abbrev pub refusal_word : Refusal → List ℕ
+refusal_word refusals.NotFound = codes "notfound"
+refusal_word refusals.NotDir = codes "notdir"
+refusal_word refusals.IsDir = codes "isdir"
+refusal_word refusals.Exists = codes "exists"
+refusal_word refusals.NotVolume = codes "notvolume"
+refusal_word refusals.TooLong = codes "toolong"
+
+-- a space and the escaped bytes, where there are any
+abbrev pub after_count : List ℕ → List ℕ
+after_count [] = []
+after_count (b ∷ bs) = codes " " ++ escaped (b ∷ bs)
+
+-- what was read, at a commit
+abbrev pub read_text : ℕ → List ℕ → List ℕ
+read_text at bytes = codes "read " ++ decimal at ++ codes " " ++ decimal (length bytes) ++ after_count bytes
+
+-- the end of a line, at a commit
+abbrev pub end_text : ℕ → EndKind → List ℕ
+end_text at ends.Committed = codes "ok " ++ decimal at
+end_text at (ends.Seen answers.Done) = codes "ok " ++ decimal at
+end_text at (ends.Seen (answers.Text bytes)) = read_text at bytes
+end_text at (ends.Refused index refusal) = codes "err " ++ decimal at ++ codes " " ++ decimal index ++ codes " " ++ refusal_word refusal
+end_text at ends.OutOfMemory = codes "err " ++ decimal at ++ codes " 0 memory"
+
+-- the result line of a line: its client, its number and its end
+abbrev pub result_line : Task → LineEnd → List ℕ
+result_line task end = decimal task.client ++ codes " " ++ decimal task.number ++ codes " " ++ end_text end.at end.kind ++ codes "\n"
+
+-- the result lines, in the order of the lines
+abbrev pub result_text : List Task → List LineEnd → List ℕ
+result_text [] ends = []
+result_text (task ∷ tasks) [] = []
+result_text (task ∷ tasks) (end ∷ ends) = result_line task end ++ result_text tasks ends

@@ -1,0 +1,9 @@
+//! What was committed, how lines end, and what the two have to do with each other:
+//! histories, the trees that they lead to, transcripts and the text of outcomes.
+#![tactic(auto)]
+
+mod entry;
+mod outcome;
+
+pub use entry::{Entry, History};
+pub use outcome::{EndKind, Outcome, Outcomes};

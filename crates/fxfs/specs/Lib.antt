@@ -1,0 +1,5 @@
+pub mod Command
+pub mod Image
+pub mod Stop
+pub mod Session
+pub mod Top

@@ -1,0 +1,105 @@
+"""Checks of the built program: what it prints and the status that it ends with, on real streams."""
+import os
+import subprocess
+import sys
+import tempfile
+
+TOP = os.path.dirname(os.path.dirname(os.path.abspath(__file__)))
+PROGRAM = os.path.join(TOP, "fxfs")
+MEMORY = ["mem:2048", "shell"]
+
+
+def run(words, script=b"", **streams):
+    """The status, standard output and standard error of one run."""
+    done = subprocess.run(
+        [PROGRAM, *words],
+        input=None if "stdin" in streams else script,
+        stdout=streams.get("stdout", subprocess.PIPE),
+        stderr=subprocess.PIPE,
+        timeout=120,
+        **({"stdin": streams["stdin"]} if "stdin" in streams else {}),
+    )
+    return done.returncode, done.stdout, done.stderr
+
+
+def example():
+    with open(os.path.join(TOP, "examples", "first.fxfs"), "rb") as script:
+        text = script.read()
+    want = (
+        b"1 1 ok 1\n1 2 ok 2\n1 3 ok 3\n1 4 read 3 15 The%20first%20line.\n"
+        b"1 5 err 3 1 exists\n1 6 err 3 1 notfound\n"
+    )
+    return run(MEMORY, text), (0, want, b"")
+
+
+def empty_script():
+    return run(MEMORY), (0, b"", b"")
+
+
+def last_line_without_a_line_feed():
+    return run(MEMORY, b"mkdir /v"), (0, b"1 1 ok 1\n", b"")
+
+
+def wrong_line_runs_nothing():
+    return run(MEMORY, b"mkdir /v\nmkdirr /w\n"), (8, b"stop 8 badline 2 unknownword\n", b"")
+
+
+def words_that_are_no_command():
+    return run(["mem:2048", "shell", "extra"]), (2, b"stop 2 badwords\n", b"")
+
+
+def no_command():
+    return run(["mem:2048"]), (2, b"stop 2 badwords\n", b"")
+
+
+def images_that_are_none():
+    got = [run(words)[::2] for words in ([], ["mem:1087", "shell"], ["mem:02048", "shell"], ["mem:65537", "shell"], ["mem:", "shell"])]
+    return got, [(12, b"fxfs: image\n")] * 5
+
+
+def smallest_and_greatest_image():
+    return [run([f"mem:{n}", "shell"])[0] for n in (1088, 65536)], [0, 0]
+
+
+def standard_input_that_fails():
+    with tempfile.TemporaryDirectory() as folder:
+        directory = os.open(folder, os.O_RDONLY)
+        try:
+            return run(MEMORY, stdin=directory), (5, b"stop 5 read\n", b"")
+        finally:
+            os.close(directory)
+
+
+def standard_output_that_fails():
+    with open("/dev/full", "wb") as full:
+        return run(MEMORY, b"mkdir /v\n", stdout=full)[::2], (6, b"")
+
+
+def input_of_the_greatest_length_and_one_more():
+    line = b"mkdir /" + b"n" * 255 + b"\n"
+    text = line * (16777216 // len(line))
+    text += b"mkdir /v".ljust(16777216 - len(text), b"v")
+    status = run(MEMORY, text)[0]
+    return [status, run(MEMORY, text + b"\n")], [0, (10, b"stop 10 input\n", b"")]
+
+
+CHECKS = [
+    example, empty_script, last_line_without_a_line_feed, wrong_line_runs_nothing, words_that_are_no_command,
+    no_command, images_that_are_none, smallest_and_greatest_image, standard_input_that_fails,
+    standard_output_that_fails, input_of_the_greatest_length_and_one_more,
+]
+
+
+def main():
+    failed = 0
+    for check in CHECKS:
+        got, want = check()
+        if got != want:
+            failed += 1
+            print(f"{check.__name__}: got {got!r}, wanted {want!r}")
+    print(f"{len(CHECKS) - failed} passed, {failed} failed")
+    return 1 if failed else 0
+
+
+if __name__ == "__main__":
+    sys.exit(main())
