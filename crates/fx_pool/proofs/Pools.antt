@@ -1,7 +1,7 @@
 -- What a pool keeps, and what follows for a buffer of it.
-use Rattle.std.proofs.Common.{◌≡◌, ℕ, ◌+◌, ◌*◌, ◌^◌, ◌≤◌, List, Option, Some, None, length, replicate, set, length-set, refl, sym, ◌∙◌, subst, ap, inr, arith}
+use Rattle.std.proofs.Common.{◌≡◌, ℕ, ◌+◌, ◌-◌, ◌*◌, ◌^◌, ◌≤◌, List, Option, Some, None, length, replicate, set, length-set, length-drop, take, drop, refl, sym, ◌∙◌, subst, ap, inr, arith}
 use Rattle.std.proofs.Math.Nat.{pow-le-pow_right}
-use Rattle.std.proofs.lemmas.List.{length-replicate}
+use Rattle.std.proofs.lemmas.List.{length-replicate, length-take}
 use Rattle.fx_pool.specs.Region.{IsDivided, IsPool, HasRun}
 use Rattle.fx_pool.proofs.Divided.{IsDivided-whole}
 
@@ -23,3 +23,8 @@ buffer-within n f o b h s k r = h.divided.tiling.within s k (inr r)
 
 pub bytes-within : (n : ℕ) (f o : List (Option ℕ)) (b : List ℕ) → IsPool n f o b → (s k : ℕ) → HasRun o s k → 4096 * (s + 2 ^ k) ≤ length b
 bytes-within n f o b h s k r = omega (arith, h.bytes_len, buffer-within n f o b h s k r)
+
+pub bytes-len : (n : ℕ) (f o : List (Option ℕ)) (b : List ℕ) → IsPool n f o b → (s k : ℕ) → HasRun o s k → length (take (4096 * (s + 2 ^ k) - 4096 * s) (drop (4096 * s) b)) ≡ 4096 * 2 ^ k
+bytes-len n f o b h s k r =
+    let w : 4096 * (s + 2 ^ k) ≤ length b = bytes-within n f o b h s k r in
+    omega (arith, length-take (4096 * (s + 2 ^ k) - 4096 * s) (drop (4096 * s) b), length-drop (4096 * s) b)

@@ -53,8 +53,16 @@ pub record IsDivided (blocks : ℕ) (free out : List (Option ℕ)) : Type 0 wher
   pub exclusive : (s k j : ℕ) → HasRun free s k → HasRun out s j → ⊥
   pub merged : (s b k : ℕ) → IsBuddy s b k → HasRun free s k → HasRun free b k → ⊥
 
+-- what every pool keeps: tables with an entry for each block, and bytes for each
+pub record IsPool (order : ℕ) (free out : List (Option ℕ)) (bytes : List ℕ) : Type 0 where
+  pub order_le : order ≤ 12
+  pub free_len : length free ≡ 2 ^ order
+  pub out_len : length out ≡ 2 ^ order
+  pub bytes_len : length bytes ≡ BLOCK_BYTES * 2 ^ order
+  pub divided : IsDivided (2 ^ order) free out
+
 abbrev pub IsSound : Region → Type 0
-IsSound p = IsDivided (2 ^ p.order) p.free p.out
+IsSound p = IsPool p.order p.free p.out p.bytes
 
 -- a free run of order k or more
 pub record HasFree (p : Region) (k : ℕ) : Type 0 where
@@ -95,11 +103,3 @@ whole order = record {
   out = replicate (2 ^ order) None;
   bytes = replicate (BLOCK_BYTES * 2 ^ order) 0;
 }
-
--- what a pool keeps
-pub record IsPool (order : ℕ) (free out : List (Option ℕ)) (bytes : List ℕ) : Type 0 where
-  pub order_le : order ≤ 12
-  pub free_len : length free ≡ 2 ^ order
-  pub out_len : length out ≡ 2 ^ order
-  pub bytes_len : length bytes ≡ BLOCK_BYTES * 2 ^ order
-  pub divided : IsDivided (2 ^ order) free out

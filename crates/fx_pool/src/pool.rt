@@ -1,5 +1,5 @@
 //! The pool and its buffers.
-ghost use Rattle.std.specs.Prelude.{◌≡◌, ℕ, ◌+◌, ◌*◌, ◌^◌, ◌<◌, ◌≤◌, ◌≢◌, ◌↔◌, Some, None, IsNone, IfOk, IfSome, slice_set};
+ghost use Rattle.std.specs.Prelude.{◌≡◌, ℕ, ◌+◌, ◌*◌, ◌^◌, ◌<◌, ◌≤◌, ◌≢◌, ◌↔◌, length, Some, None, IsNone, IfOk, IfSome, slice_set};
 ghost use Rattle.std.specs.Borrow.{sem};
 ghost use Rattle.fx_pool.specs.Region.{Run, IsSound, IsOut, HasFree, LiesFree, IsMultiple, IsBuddy, bytes_of, free_of, whole};
 
@@ -174,7 +174,8 @@ impl Pool {
     /// The bytes of a buffer of this pool.
     pub fn bytes(&self, buf: &Buf) -> &[u8]
         requires { IsOut self.now buf.now }
-        ensures { result.now ≡ bytes_of self.now buf.now }
+        ensures value { result.now ≡ bytes_of self.now buf.now }
+        ensures len { length result.now ≡ BLOCK_BYTES * 2 ^ buf.now.order }
     {
         let Range { start, end } = buf.range();
         &self.bytes[start..end]
@@ -185,6 +186,7 @@ impl Pool {
         requires { IsOut self.old buf.now }
         ensures* writes_back { sem 𝓛 (LendsBuffer self.entry buf.now result) }
         ensures value { result.now ≡ bytes_of self.old buf.now }
+        ensures len { length result.now ≡ BLOCK_BYTES * 2 ^ buf.now.order }
     {
         self.bytes.slice_mut(buf.range())
     }

@@ -74,11 +74,7 @@ invariant_of-self c =
     divided
 
 pub returns-clause-sound : goal.returns-clause-sound
-returns-clause-sound c =
-    let below : c.loop-self.run.start < length c.loop-self.self-inside.free = omega (arith, c.loop-self.invariant.below, c.loop-self.invariant.free_len, ap (λ (v : Vec (Option ℕ) Global). length v.items) c.loop-self.invariant.out_same, length-set {A = Option ℕ} c.self.inside.out.items c.from.result None, c.self.invariant.out_len, c.self.invariant.free_len) in
-    let divided : IsDivided (2 ^ c.loop-self.self-inside.order) c.insert.new.self c.loop-self.self-inside.out.items = subst (λ (f : List (Option ℕ)). IsDivided (2 ^ c.loop-self.self-inside.order) f c.loop-self.self-inside.out.items) (sym c.insert.ensures)
-    (back-of (2 ^ c.loop-self.self-inside.order) c.loop-self.self-inside.free c.loop-self.self-inside.out.items c.loop-self.run.start c.loop-self.buddy c.loop-self.run.order c.loop-self.invariant.buddy below c.loop-self.invariant.below c.loop-self.invariant.none c.loop-self.invariant.divided (λ x. absurd (false≢true (c.loop-self-test.ensures.1 x)))) in
-    divided
+returns-clause-sound c = invariant_of-self c
 
 pub returns-clause-still_out : goal.returns-clause-still_out
 returns-clause-still_out c run ne out =

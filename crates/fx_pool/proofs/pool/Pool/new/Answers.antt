@@ -15,4 +15,4 @@ invariant_of-result c =
     (omega (arith, c.in_ok-vec-2.field-0.ok.0, c.in_ok-vec-2.ensures.len, c.blocks-len.ensures))
 
 pub returns-clause-sound : goal.returns-clause-sound
-returns-clause-sound c = (invariant_of-result c).divided
+returns-clause-sound c = invariant_of-result c

@@ -86,12 +86,7 @@ returns-clause-was_free c = record {
 }
 
 pub returns-clause-sound : goal.returns-clause-sound
-returns-clause-sound c =
-    let done : c.loop-rest.rest ≡ c.args.order = omega (arith, c.loop-rest-test.false, c.loop-rest.invariant.at_least) in
-    let divided : IsDivided (2 ^ c.loop-rest.self-inside.order) c.loop-rest.self-inside.free (set c.loop-rest.self-inside.out.items c.from.result (Some c.args.order)) =
-    subst (λ (i : ℕ). IsDivided (2 ^ c.loop-rest.self-inside.order) c.loop-rest.self-inside.free (set c.loop-rest.self-inside.out.items i (Some c.args.order))) (sym c.from.ensures)
-    (subst (λ (k : ℕ). IsDivided (2 ^ c.loop-rest.self-inside.order) c.loop-rest.self-inside.free (set c.loop-rest.self-inside.out.items c.in_ok-start.field-0.start (Some k))) done c.loop-rest.invariant.divided) in
-    divided
+returns-clause-sound c = invariant_of-self c
 
 pub returns-clause-is_out : goal.returns-clause-is_out
 returns-clause-is_out c =
