@@ -8,7 +8,8 @@ import subprocess
 import time
 
 TOP = os.path.dirname(os.path.dirname(os.path.abspath(__file__)))
-PROGRAM = os.path.join(TOP, "fxfs")
+LAUNCHER = os.path.join(TOP, "fxfs")
+PROGRAM = os.path.join(TOP, "crates", "fxfs_cli", "out", "fxfs_cli")
 
 
 def script(files):
@@ -29,6 +30,8 @@ def seconds(text):
 
 
 def main():
+    # The launcher builds the program where it is not built.
+    subprocess.run([LAUNCHER, "mem:2048", "shell"], stdin=subprocess.DEVNULL, check=True)
     short, long = script(2000), script(20000)
     seconds(short)
     rounds = []

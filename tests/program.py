@@ -5,7 +5,8 @@ import sys
 import tempfile
 
 TOP = os.path.dirname(os.path.dirname(os.path.abspath(__file__)))
-PROGRAM = os.path.join(TOP, "fxfs")
+LAUNCHER = os.path.join(TOP, "fxfs")
+PROGRAM = os.path.join(TOP, "crates", "fxfs_cli", "out", "fxfs_cli")
 MEMORY = ["mem:2048", "shell"]
 
 
@@ -53,8 +54,14 @@ def no_command():
 
 
 def images_that_are_none():
-    got = [run(words)[::2] for words in ([], ["mem:1087", "shell"], ["mem:02048", "shell"], ["mem:65537", "shell"], ["mem:", "shell"])]
-    return got, [(12, b"fxfs: image\n")] * 5
+    images = ["mem:1087", "mem:02048", "mem:65537", "mem:", "disk.img", b"\xff"]
+    got = [run(words)[::2] for words in [[], *([image, "shell"] for image in images)]]
+    return got, [(12, b"fxfs: image\n")] * 7
+
+
+def standard_error_that_fails():
+    with open("/dev/full", "wb") as full:
+        return subprocess.run([PROGRAM, "disk.img", "shell"], stderr=full, timeout=120, check=False).returncode, 12
 
 
 def smallest_and_greatest_image():
@@ -85,12 +92,14 @@ def input_of_the_greatest_length_and_one_more():
 
 CHECKS = [
     example, empty_script, last_line_without_a_line_feed, wrong_line_runs_nothing, words_that_are_no_command,
-    no_command, images_that_are_none, smallest_and_greatest_image, standard_input_that_fails,
+    no_command, images_that_are_none, standard_error_that_fails, smallest_and_greatest_image, standard_input_that_fails,
     standard_output_that_fails, input_of_the_greatest_length_and_one_more,
 ]
 
 
 def main():
+    # The first run builds the program where it is not built, and may take long.
+    subprocess.run([LAUNCHER, *MEMORY], stdin=subprocess.DEVNULL, stdout=subprocess.DEVNULL, check=True)
     failed = 0
     for check in CHECKS:
         got, want = check()

@@ -128,6 +128,15 @@ fn gives_every_image(rt: HostRuntime) -> Result<(), Fail> {
     Ok(())
 }
 
+/// Reads a block, if the disk has it.
+fn read<D: Disk>(disk: &mut D, at: u32, into: &mut [u8; 4096]) -> Result<(), DiskFailed> {
+    if at < disk.blocks() {
+        disk.read(at, into)
+    } else {
+        Err(DiskFailed)
+    }
+}
+
 #[test]
 fn fails_by_number(rt: HostRuntime) -> Result<(), Fail> {
     let mut disk = MemDisk::new(rt.alloc(), 2)?;
@@ -138,13 +147,13 @@ fn fails_by_number(rt: HostRuntime) -> Result<(), Fail> {
     assert_eq!(rt; ask(&mut disk, 6), 1);
     let mut into = block(9);
     let answers = [
-        disk.read(0, &mut into),
-        disk.read(0, &mut into),
-        disk.read(1, &mut into),
+        read(&mut disk, 0, &mut into),
+        read(&mut disk, 0, &mut into),
+        read(&mut disk, 1, &mut into),
     ];
     assert_eq!(rt; answers, [Ok(()), Err(DiskFailed), Ok(())]);
     assert_eq!(rt; into[7], 0);
-    assert_eq!(rt; disk.read(0, &mut into), Ok(()));
+    assert_eq!(rt; read(&mut disk, 0, &mut into), Ok(()));
     assert_eq!(rt; into[7], 5);
     assert_eq!(rt;
         (disk.calls(), disk.reads(), disk.faults(), disk.starved()),

@@ -1,6 +1,7 @@
 -- A session with one line more.
 use Rattle.std.proofs.Common.{◌≡◌, ℕ, zero, suc, ◌+◌, ◌<◌, ◌≤◌, Bool, true, false, List, [], ◌∷◌, ◌++◌, refl, sym, ap, subst, ◌∙◌, length, take, arith, length-append, inl, inr, cond, ◌-◌, get_or}
-use Rattle.std.specs.Prelude.{Some, IsOk, count_by, slice_get, ◌⊎◌}
+use Rattle.std.specs.Prelude.{Some, IsOk, All, count_by, slice_get, ◌⊎◌}
+use Rattle.std.proofs.lemmas.List.Elements.{All-push}
 use Rattle.std.proofs.lemmas.Option.{slice_get_within, get_or_from_slice_get}
 use Rattle.std.proofs.lemmas.List.{take-append-le}
 use Rattle.std.proofs.lemmas.List.Sums.{fold-append, count_by_more_yes, count_by_more_no}
@@ -30,6 +31,7 @@ pub record Follows (tree : Tree) (base : ℕ) (history : List Entry) (tasks : Li
   pub asked : (k : ℕ) (entry : Entry) → slice_get history k ≡ Some entry → 0 < entry.who → (i : ℕ) × (task : Task) × CommitsAs tasks outcomes entry.number entry.line i task
   pub points : (i : ℕ) (end : LineEnd) → slice_get outcomes i ≡ Some end → end.at ≡ base + count_by commits (take (i + 1) outcomes)
   pub count : length history ≡ count_by commits outcomes
+  pub unsettled : All (λ entry. entry.settled ≡ 0) history
 
 -- an end that was right stays right when a commit with a later number is appended
 answered_kept : (t : Tree) (base : ℕ) (h : List Entry) (e : Entry) (task : Task) (at : ℕ) (kind : EndKind) → e.number ≡ base + length h + 1 → at ≤ base + length h → IsAnswered t h task at kind → IsAnswered t (h ++ e ∷ []) task at kind
@@ -115,6 +117,7 @@ stays t base h tasks outcomes task o k none at a =
       asked = λ j entry got who. let old = k.asked j entry got who in (old.0, old.1, asked_kept tasks outcomes task o entry.number entry.line old.0 old.1 old.2);
       points = points_more base outcomes o k.points (omega (arith, at, k.count, zero_more));
       count = omega (arith, k.count, count_more outcomes o, zero_more);
+      unsettled = k.unsettled;
     }
 
 -- a line that commits
@@ -153,6 +156,7 @@ commits_more t base h tasks outcomes task at e k is settled place ok client =
       ];
       points = points_more base outcomes o k.points (omega (arith, place, k.count));
       count = omega (arith, k.count, count_more outcomes o, length-append h (e ∷ []));
+      unsettled = All-push (λ (x : Entry). x.settled ≡ 0) h e k.unsettled settled;
     }
 
 -- a line more, by how it ended
@@ -175,6 +179,7 @@ follows_none t base = record {
   asked = λ j entry p w. absurd (cc p);
   points = λ i end p. cc;
   count = refl;
+  unsettled = λ i d l. absurd (omega arith);
 }
 
 -- the session that the lines so far make

@@ -48,4 +48,11 @@ impl History {
     {
         self.entries.as_slice()
     }
+
+    /// The vector that holds them.
+    pub fn into_vec(self) -> Vec<Entry>
+        ensures { result.items ≡ self }
+    {
+        self.entries
+    }
 }

@@ -85,4 +85,11 @@ impl Outcomes {
     {
         self.items.as_slice()
     }
+
+    /// The vector that holds them.
+    pub fn into_vec(self) -> Vec<Outcome>
+        ensures { result.items ≡ self }
+    {
+        self.items
+    }
 }

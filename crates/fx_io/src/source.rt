@@ -64,6 +64,9 @@ pub fn read_whole<S: Source>(alloc: Global, src: &mut S, limit: u32) -> Result<B
     ensures too_much { IsErrOf result ReadAllFault.TooMuch
         → GivesCount (S.left src.old) (S.left src.new) (limit + 1) }
 
+    ensures failed_within { IsErrOf result ReadAllFault.Failed
+        → GivesAtMost (S.left src.old) (S.left src.new) limit }
+
     // The count rises where a call fails, and nowhere else.
     ensures failed { IsErrOf result ReadAllFault.Failed
         → Rose (S.fault_count src.old) (S.fault_count src.new) }

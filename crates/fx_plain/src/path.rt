@@ -36,6 +36,13 @@ impl Path {
     {
         self.names.as_slice()
     }
+
+    /// The vector that holds its names.
+    pub fn into_vec(self) -> Vec<Name>
+        ensures { result.items ≡ self }
+    {
+        self.names
+    }
 }
 
 /// The same path in memory of its own. Costs the bytes of its names.

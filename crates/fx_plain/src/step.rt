@@ -5,6 +5,7 @@ use crate::path::Path;
 use fx_item::Bytes;
 use std::alloc::AllocError;
 use std::marker::Model;
+use thiserror::Error;
 
 /// One thing that a script asks of the tree.
 #[derive(Debug, Drop)]
@@ -74,6 +75,13 @@ impl Steps {
     {
         self.items.as_slice()
     }
+
+    /// The vector that holds them.
+    pub fn into_vec(self) -> Vec<Step>
+        ensures { result.items ≡ self }
+    {
+        self.items
+    }
 }
 
 /// What a step that was done answers.
@@ -86,18 +94,24 @@ pub enum Answer {
 }
 
 /// Why a step was refused; the tree is as before it.
-#[derive(Clone, Copy, Debug, PartialEq, Eq)]
+#[derive(Clone, Copy, Debug, PartialEq, Eq, Error)]
 pub enum Refusal {
     /// Nothing lies at the path, or at a directory on the way to it.
+    #[error("nothing lies there")]
     NotFound,
     /// A file stands on the way.
+    #[error("a file stands on the way")]
     NotDir,
     /// The path names a directory where a file is wanted.
+    #[error("it is a directory")]
     IsDir,
     /// Something lies at the path already.
+    #[error("something lies there already")]
     Exists,
     /// A file would be a volume: its path is the root or has one name.
+    #[error("a volume is a directory")]
     NotVolume,
     /// A file would be longer than 16,777,216 bytes, or a read than 1,048,576.
+    #[error("it is too long")]
     TooLong,
 }

@@ -5,11 +5,7 @@ use Rattle.std.specs.Io.KnownBytes.{append_known}
 use Rattle.std.proofs.lemmas.List.{take-append-le, take_min}
 use Rattle.std.proofs.Math.Seq.{take-append-add}
 use Rattle.fx_io.specs.Told.{Takes, TakesFront}
-
--- two pieces are one text
-pub takes_both : (before mid now : Option (List ℕ)) (p q : List ℕ) → Takes before mid p → Takes mid now q → Takes before now (p ++ q)
-takes_both None mid now p q e f = f ∙ ap (λ m. append_known m q) e
-takes_both (Some t) mid now p q e f = f ∙ ap (λ m. append_known m q) e ∙ ap Some (append_assoc t p q)
+use Rattle.fx_io.proofs.Pieces.{takes_more}
 
 -- a front of a text is a front of a longer one
 pub front_more : (before now : Option (List ℕ)) (p q : List ℕ) → TakesFront before now p → TakesFront before now (p ++ q)
@@ -21,7 +17,7 @@ front_more before now p q (n, e) =
 
 -- a whole piece and a front of the next are a front of both
 pub front_after : (before mid now : Option (List ℕ)) (p q : List ℕ) → Takes before mid p → TakesFront mid now q → TakesFront before now (p ++ q)
-front_after before mid now p q e (n, f) = (length p + n, subst (Takes before now) (sym (take-append-add p q n)) (takes_both before mid now p (take n q) e f))
+front_after before mid now p q e (n, f) = (length p + n, subst (Takes before now) (sym (take-append-add p q n)) (takes_more before mid now p (take n q) e f))
 
 -- what holds whatever the answer holds on an error
 pub on_any_err : {T E : Type 0} (r : Result T E) (P : Type 0) → P → OnErr r P

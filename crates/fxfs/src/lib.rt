@@ -11,5 +11,6 @@ mod top;
 
 pub use command::{Command, WordsFault, command_of};
 pub use ended::{Ended, Stop};
+pub use fx_history::{EndKind, Entry, History, Outcome, Outcomes};
 pub use image::{ImageWord, MAX_BLOCKS, MIN_BLOCKS, image_of};
 pub use top::{MAX_INPUT, fxfs_top};

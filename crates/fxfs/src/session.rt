@@ -142,7 +142,8 @@ impl Session {
 /// Does the lines in their order, from the root alone on.
 pub(crate) fn run(alloc: Global, tasks: &[Task]) -> Result<Ran, AllocError>
     requires { All (λ task. 0 < task.client) tasks.now }
-    ensures { IfOk result (λ ran. IsSession root 0 ran.history tasks.now ran.outcomes) }
+    ensures session { IfOk result (λ ran. IsSession root 0 ran.history tasks.now ran.outcomes) }
+    ensures settled { IfOk result (λ ran. All (λ entry. entry.settled ≡ 0) ran.history) }
 {
     let mut session = Session::new(alloc)?;
     let mut items = Vec::with_capacity(alloc, tasks.len())?;

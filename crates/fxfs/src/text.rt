@@ -1,5 +1,5 @@
 //! Result lines and the stop line.
-ghost use Rattle.std.specs.Prelude.{◌≡◌, ◌++◌, length, IfOk, OnOk, OnErr, codes};
+ghost use Rattle.std.specs.Prelude.{◌≡◌, ◌≤◌, ◌++◌, length, IfOk, OnOk, OnErr, codes};
 ghost use Rattle.std.specs.String.{string_bytes};
 ghost use Rattle.fx_base.specs.Causes.{Rose};
 ghost use Rattle.fx_io.specs.Told.{Takes, TakesFront};
@@ -89,6 +89,7 @@ fn write_bad_line<K: Sink>(out: &mut K, number: u32, fault: LineFault) -> Result
     ensures ok { OnOk result (Takes (K.text out.old) (K.text out.new) (bad_line number fault)) }
     ensures front { OnErr result (TakesFront (K.text out.old) (K.text out.new) (bad_line number fault)) }
     ensures failed { OnErr result (Rose (K.fault_count out.old) (K.fault_count out.new)) }
+    ensures grows { K.fault_count out.old ≤ K.fault_count out.new }
 {
     let mut digits = Buffer::new();
     write_whole(out, b"stop 8 badline ")?;
@@ -103,6 +104,7 @@ pub(crate) fn write_stop<K: Sink>(out: &mut K, stop: Stop) -> Result<(), Failed>
     ensures ok { OnOk result (Takes (K.text out.old) (K.text out.new) (stop_line stop)) }
     ensures front { OnErr result (TakesFront (K.text out.old) (K.text out.new) (stop_line stop)) }
     ensures failed { OnErr result (Rose (K.fault_count out.old) (K.fault_count out.new)) }
+    ensures grows { K.fault_count out.old ≤ K.fault_count out.new }
 {
     match stop {
         Stop::Done | Stop::Write => Ok(()),

@@ -1,5 +1,5 @@
 //! The top call.
-ghost use Rattle.std.specs.Prelude.{◌≡◌, ◌≢◌, ◌⊎◌, ℕ, ◌+◌, ◌↔◌, None, Err, length, map, IfOk, IfErr};
+ghost use Rattle.std.specs.Prelude.{◌≡◌, ◌≢◌, ◌⊎◌, ℕ, ◌+◌, ◌≤◌, None, Err, All, length, map, IfOk, IfErr};
 ghost use Rattle.std.specs.String.{string_bytes};
 ghost use Rattle.fx_base.specs.Causes.{Rose};
 ghost use Rattle.fx_io.specs.Told.{GivesAtMost, GivesCount, Takes, TakesFront};
@@ -43,22 +43,32 @@ pub fn fxfs_top<S: Source, K: Sink>(
 
     // Each other status comes by its own cause, and status 7 by want of memory.
     ensures words { result.status ≡ 2 → command_of (map string_bytes words.now) ≡ None }
+    ensures unread { result.status ≡ 2 → src.new ≡ src.old }
     ensures command { command_of (map string_bytes words.now) ≡ None
         → (result.status ≡ 2) ⊎ (result.status ≡ 7) }
     ensures source { result.status ≡ 5 → Rose (S.fault_count src.old) (S.fault_count src.new) }
+    ensures source_within { result.status ≡ 5
+        → GivesAtMost (S.left src.old) (S.left src.new) MAX_INPUT }
     ensures line { (number : ℕ) (fault : LineFault) → result.stop ≡ Stop.BadLine number fault
         → IsBadInput (S.left src.old) (S.left src.new) number fault }
     ensures much { result.status ≡ 10
         → GivesCount (S.left src.old) (S.left src.new) (MAX_INPUT + 1) }
 
-    // No line was run at these, and the sink has the line that tells the cause, or failed.
+    // No line was run at these, at status 7 none or all; and the sink has the line that tells the
+    // cause, or failed.
     ensures idle { result.status ≢ 0 → result.status ≢ 6
         → IsIdle result.history result.outcomes ⊎ ((result.status ≡ 7)
         × HasRun (S.left src.old) (S.left src.new) result.history result.outcomes) }
     ensures stop { result.status ≢ 0 → result.status ≢ 6
         → TakesOrFails (K.text out.old) (K.text out.new)
         (K.fault_count out.old) (K.fault_count out.new) (stop_line result.stop) }
+
+    // Whatever the status: nothing is settled, since there is no device; at most one byte more than
+    // the limit was taken; no count of faults falls.
+    ensures settled { All (λ entry. entry.settled ≡ 0) result.history }
     ensures most { GivesAtMost (S.left src.old) (S.left src.new) (MAX_INPUT + 1) }
+    ensures source_grows { S.fault_count src.old ≤ S.fault_count src.new }
+    ensures sink_grows { K.fault_count out.old ≤ K.fault_count out.new }
 {
     match command_of(words) {
         Ok(Command::Shell) => {}
@@ -81,6 +91,9 @@ fn read_tasks<S: Source>(alloc: Global, src: &mut S) -> Result<Tasks, Stop>
     ensures err { IfErr result (IsRefusedBy (S.left src.old) (S.left src.new)
         (S.fault_count src.old) (S.fault_count src.new)) }
     ensures most { GivesAtMost (S.left src.old) (S.left src.new) (MAX_INPUT + 1) }
+    ensures read { result ≡ Err Stop.Read
+        → GivesAtMost (S.left src.old) (S.left src.new) MAX_INPUT }
+    ensures grows { S.fault_count src.old ≤ S.fault_count src.new }
 {
     let bytes = match read_whole(alloc, src, MAX_INPUT) {
         Ok(bytes) => bytes,
@@ -104,6 +117,7 @@ fn tell<K: Sink>(alloc: Global, tasks: &[Task], ran: Ran, out: &mut K) -> Ended
     ensures outcomes { result.outcomes ≡ ran.outcomes }
     ensures told { Tells (K.text out.old) (K.text out.new)
         (K.fault_count out.old) (K.fault_count out.new) result.stop tasks.now ran.outcomes }
+    ensures grows { K.fault_count out.old ≤ K.fault_count out.new }
 {
     let Ran { history, outcomes } = ran;
     let Ok(text) = result_text(alloc, tasks, outcomes.as_slice()) else {
@@ -124,6 +138,7 @@ fn stopped<K: Sink>(alloc: Global, out: &mut K, stop: Stop) -> Ended
     ensures idle { IsIdle result.history result.outcomes }
     ensures told { TakesOrFails (K.text out.old) (K.text out.new)
         (K.fault_count out.old) (K.fault_count out.new) (stop_line stop) }
+    ensures grows { K.fault_count out.old ≤ K.fault_count out.new }
 {
     // Where the line cannot be written the status stays what it is.
     let _told = write_stop(out, stop);

@@ -123,7 +123,7 @@ fn refusals_in_their_order(rt: HostRuntime) -> Result<(), Fail> {
 fn causes_and_their_statuses(rt: HostRuntime) -> Result<(), Fail> {
     let alloc = rt.alloc();
     let right = "mkdir /v\n";
-    let cases: [(&[&str], &str, u64, u64, u8, &str); 8] = [
+    let cases: [(&[&str], &str, u64, u64, u8, &str); 11] = [
         (&["shell", "extra"], right, 0, 0, 2, "stop 2 badwords\n"),
         (&[], right, 0, 0, 2, "stop 2 badwords\n"),
         (
@@ -144,8 +144,11 @@ fn causes_and_their_statuses(rt: HostRuntime) -> Result<(), Fail> {
         ),
         (&["shell"], right, 1, 0, 5, "stop 5 read\n"),
         (&["shell"], right, 2, 0, 5, "stop 5 read\n"),
+        (&["shell"], right, 3, 0, 5, "stop 5 read\n"),
         (&["shell"], right, 0, 1, 6, ""),
         (&["shell"], right, 0, 2, 6, "1 1 ok 1"),
+        (&["shell", "extra"], right, 0, 1, 2, ""),
+        (&["shell", "extra"], right, 0, 2, 2, "stop 2 b"),
     ];
     for (words, script, failing_read, failing_write, status, want) in cases {
         let told = told(
@@ -159,5 +162,27 @@ fn causes_and_their_statuses(rt: HostRuntime) -> Result<(), Fail> {
         assert_eq!(rt; told.ended.status, status, "{script}");
         assert_eq!(rt; told.text.as_slice(), want.as_bytes(), "{script}");
     }
+    Ok(())
+}
+
+#[test]
+fn paths_of_64_names(rt: HostRuntime) -> Result<(), Fail> {
+    let alloc = rt.alloc();
+    let mut script = String::new(alloc);
+    let mut want = String::new(alloc);
+    let mut path = String::new(alloc);
+    for number in 1..65 {
+        path.push_str("/d")?;
+        write!(script, "mkdir {path}\n")?;
+        write!(want, "1 {number} ok {number}\n")?;
+    }
+    let done = told(alloc, &["shell"], script.as_bytes(), 4096, 0, 0)?;
+    assert_eq!(rt; done.text.as_slice(), want.as_bytes());
+    write!(script, "mkdir {path}/d\n")?;
+    let refused = told(alloc, &["shell"], script.as_bytes(), 4096, 0, 0)?;
+    assert_eq!(rt;
+        refused.text.as_slice(),
+        b"stop 8 badline 65 badpath\n".as_slice()
+    );
     Ok(())
 }
