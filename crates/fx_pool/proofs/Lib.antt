@@ -6,4 +6,4 @@ pub mod Kept
 pub mod Buddies
 pub mod Pools
 pub mod Steps
-pub mod Laws
+pub mod Buffers

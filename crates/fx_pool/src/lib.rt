@@ -2,6 +2,7 @@
 #![tactic(auto)]
 
 mod free;
+pub mod laws;
 mod pool;
 
 pub use pool::{BLOCK_BYTES, Buf, MAX_ORDER, Pool};
