@@ -1,0 +1,5 @@
+pub mod Conflict
+pub mod Table
+pub mod Waiting
+pub mod Array
+pub mod Rooms
