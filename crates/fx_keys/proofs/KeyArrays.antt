@@ -27,7 +27,7 @@ use Rattle.fx_keys.proofs.Orders.{key_total, key_exact, hold_total, hold_exact, 
 use Rattle.fx_keys.proofs.KeyHolders.{mode_among-push, mode_among-raised_other, mode_among-raised_same, numbers-raised, hinders_has, all_hinder, IsHindering, not_listed}
 
 -- the first that is there
-abbrev or_else : {X : Type 0} → Option X → Option X → Option X
+abbrev pub or_else : {X : Type 0} → Option X → Option X → Option X
 or_else None b = b
 or_else (Some a) b = Some a
 
@@ -44,7 +44,7 @@ find-append q (x ∷ xs) ys =
     ]
 
 -- a key's holds are its holders
-find_here : (key : LockKey) (w : ℕ) (hs : List Holder) → finite.find hold_cmp (key, w) (map (λ h. ((key, h.who), h.mode)) hs) ≡ mode_among hs w
+pub find_here : (key : LockKey) (w : ℕ) (hs : List Holder) → finite.find hold_cmp (key, w) (map (λ h. ((key, h.who), h.mode)) hs) ≡ mode_among hs w
 find_here key w [] = refl
 find_here key w (h ∷ hs) = λ i. cond (one_key key w h.who i) (Some h.mode) (find_here key w hs i)
 
@@ -55,10 +55,10 @@ find_elsewhere key j w (h ∷ hs) ne = λ i. cond (keys_apart j key w h.who ne i
 pub mode_at-append : (xs ys : List Entry) (key : LockKey) (w : ℕ) → mode_at (xs ++ ys) key w ≡ or_else (mode_at xs key w) (mode_at ys key w)
 mode_at-append xs ys key w = ap (finite.find hold_cmp (key, w)) (flat_map-append holds_at xs ys) ∙ find-append (key, w) (holds_in xs) (holds_in ys)
 
-mode_at-cons : (e : Entry) (es : List Entry) (key : LockKey) (w : ℕ) → mode_at (e ∷ es) key w ≡ or_else (finite.find hold_cmp (key, w) (holds_at e)) (mode_at es key w)
+pub mode_at-cons : (e : Entry) (es : List Entry) (key : LockKey) (w : ℕ) → mode_at (e ∷ es) key w ≡ or_else (finite.find hold_cmp (key, w) (holds_at e)) (mode_at es key w)
 mode_at-cons e es key w = find-append (key, w) (holds_at e) (holds_in es)
 
-mode_at-cons_other : (e : Entry) (es : List Entry) (key : LockKey) (w : ℕ) → key ≢ e.key → mode_at (e ∷ es) key w ≡ mode_at es key w
+pub mode_at-cons_other : (e : Entry) (es : List Entry) (key : LockKey) (w : ℕ) → key ≢ e.key → mode_at (e ∷ es) key w ≡ mode_at es key w
 mode_at-cons_other e es key w ne = mode_at-cons e es key w ∙ ap (λ o. or_else o (mode_at es key w)) (find_elsewhere e.key key w e.holders.items ne)
 
 pub mode_at-none : (es : List Entry) (key : LockKey) (w : ℕ) → All (λ e. key ≢ e.key) es → mode_at es key w ≡ None

@@ -6,3 +6,4 @@ pub mod KeyDrops
 pub mod RoomLists
 pub mod Retained
 pub mod KeyTables
+pub mod KeyChecks

@@ -32,7 +32,7 @@ pub(crate) struct Entry {
 }
 
 /// Where the key stands, or else where it would. Costs a binary search.
-fn locate(entries: &[Entry], key: LockKey) -> Result<usize, usize>
+pub(crate) fn locate(entries: &[Entry], key: LockKey) -> Result<usize, usize>
     requires { IsKeyArray entries.now }
     ensures { Locates entries.now key result }
 {

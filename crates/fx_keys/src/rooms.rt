@@ -23,7 +23,8 @@ pub(crate) fn promised(rooms: &[Room]) -> usize
     rooms.iter().map(|room| room.places).sum()
 }
 
-fn seat(rooms: &[Room], who: u32) -> Option<usize>
+/// Where the number stands in the list.
+pub(crate) fn seat(rooms: &[Room], who: u32) -> Option<usize>
     ensures { SeatIs rooms.now who result }
 {
     rooms.iter().position(|room| room.who == who)

@@ -111,3 +111,6 @@ impl KeyTable {
         forget(&mut self.rooms, who);
     }
 }
+
+#[cfg(test)]
+mod tests;
