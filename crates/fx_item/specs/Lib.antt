@@ -3,3 +3,5 @@ pub mod Item
 pub mod Order
 pub mod Overlay
 pub mod Reading
+pub mod LockKey
+pub mod Look

@@ -1,8 +1,11 @@
-//! The types that several layers share: names, byte strings and the sizes of a tree.
+//! The types that several layers share: names, byte strings, items, lock keys and the sizes of a tree.
 #![tactic(auto)]
 
 mod bytes;
 mod item;
+mod key_list;
+mod lock;
+mod look;
 mod name;
 mod order;
 mod reading;
@@ -10,6 +13,9 @@ mod writing;
 
 pub use bytes::Bytes;
 pub use item::{Item, ItemFault, Items, Key, Value};
+pub use key_list::KeyList;
+pub use lock::{LockKey, Mode};
+pub use look::{Level, Look, LookFault};
 pub use name::{MAX_NAME, Name, is_name};
 pub use reading::decode;
 pub use writing::{encode, encoded_len};

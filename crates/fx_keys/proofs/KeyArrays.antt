@@ -14,14 +14,15 @@ use Rattle.std.proofs.lemmas.Grind.{flat_map-append}
 use Rattle.std.proofs.lemmas.Map.Keys.{Less-from_sorted, IsDistinct-push, IsDistinct-cons}
 use Rattle.std.proofs.lemmas.Cmp.{nat_eq_equiv}
 use Rattle.std.proofs.Math.Seq.{map-set_same}
-use Rattle.fx_keys.specs.declared.lock.LockKey.{LockKey}
-use Rattle.fx_keys.specs.declared.lock.Mode.{Mode}
-use Rattle.fx_keys.specs.declared.lock.Mode.TheVariants.{Write}
+use Rattle.fx_item.specs.declared.lock.LockKey.{LockKey}
+use Rattle.fx_item.specs.declared.lock.Mode.{Mode}
+use Rattle.fx_item.specs.declared.lock.Mode.TheVariants.{Write}
 use Rattle.fx_keys.specs.declared.array.Holder.{Holder}
 use Rattle.fx_keys.specs.declared.array.Entry.{Entry}
 use Rattle.fx_keys.specs.declared.table.Asked.{Asked}
 use Rattle.fx_keys.specs.declared.table.Asked.TheVariants.{Held, Busy}
-use Rattle.fx_keys.specs.Table.{key_cmp, hold_cmp, IsLeast}
+use Rattle.fx_item.specs.LockKey.{key_cmp}
+use Rattle.fx_keys.specs.Table.{hold_cmp, IsLeast}
 use Rattle.fx_keys.specs.Array.{holds_at, holds_in, map_of, mode_at, mode_among, IsInline, IsKeyArray, in_the_way, IsLeastOf, JoinGives, RisesGives, HoldGives, Hinders, held_by, raised_by, with_holder, Locates}
 use Rattle.fx_keys.proofs.Orders.{key_total, key_exact, hold_total, hold_exact, keys_apart, one_key, nat_ties, same_or_not}
 use Rattle.fx_keys.proofs.KeyHolders.{mode_among-push, mode_among-raised_other, mode_among-raised_same, numbers-raised, hinders_has, all_hinder, IsHindering, not_listed}

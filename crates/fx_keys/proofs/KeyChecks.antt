@@ -10,13 +10,14 @@ use Rattle.std.proofs.lemmas.List.{length-map}
 use Rattle.std.proofs.lemmas.List.Elements.{All-head, All-tail}
 use Rattle.std.proofs.lemmas.Map.Made.{length-le_from_is_member}
 use Rattle.smallvec.specs.SmallVec.{SmallVec}
-use Rattle.fx_keys.specs.declared.lock.LockKey.{LockKey}
-use Rattle.fx_keys.specs.declared.lock.Mode.{Mode}
-use Rattle.fx_keys.specs.declared.lock.Mode.TheVariants.{Change}
+use Rattle.fx_item.specs.declared.lock.LockKey.{LockKey}
+use Rattle.fx_item.specs.declared.lock.Mode.{Mode}
+use Rattle.fx_item.specs.declared.lock.Mode.TheVariants.{Change}
 use Rattle.fx_keys.specs.declared.array.Entry.{Entry}
 use Rattle.fx_keys.specs.declared.rooms.Room.{Room}
 use Rattle.fx_keys.specs.declared.table.TheConstants.{MAX_NUMBERS}
-use Rattle.fx_keys.specs.Table.{key_cmp, hold_cmp, IsListed, HasSeatFor, IsAboveKeysOf, IsNextToRaise}
+use Rattle.fx_item.specs.LockKey.{key_cmp}
+use Rattle.fx_keys.specs.Table.{hold_cmp, IsListed, HasSeatFor, IsAboveKeysOf, IsNextToRaise}
 use Rattle.fx_keys.specs.Array.{holds_at, mode_at, mode_among}
 use Rattle.fx_keys.specs.Rooms.{table_of, IsSound}
 use Rattle.fx_keys.proofs.Orders.{same_or_not}

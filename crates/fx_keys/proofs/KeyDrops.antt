@@ -8,11 +8,12 @@ use Rattle.std.specs.FinMap.Entries.{find-where_key}
 use Rattle.std.proofs.lemmas.Bool.{not-false}
 use Rattle.std.proofs.lemmas.List.Elements.{All-cons, All-head, All-tail, All-from_recursion, recursion_from_All, filter-append}
 use Rattle.std.proofs.lemmas.Map.Keys.{IsDistinct-head, IsDistinct-tail, IsDistinct-cons}
-use Rattle.fx_keys.specs.declared.lock.LockKey.{LockKey}
-use Rattle.fx_keys.specs.declared.lock.Mode.{Mode}
+use Rattle.fx_item.specs.declared.lock.LockKey.{LockKey}
+use Rattle.fx_item.specs.declared.lock.Mode.{Mode}
 use Rattle.fx_keys.specs.declared.array.Holder.{Holder}
 use Rattle.fx_keys.specs.declared.array.Entry.{Entry}
-use Rattle.fx_keys.specs.Table.{key_cmp, hold_cmp}
+use Rattle.fx_item.specs.LockKey.{key_cmp}
+use Rattle.fx_keys.specs.Table.{hold_cmp}
 use Rattle.fx_keys.specs.Array.{holds_at, holds_in, map_of, IsInline, IsKeyArray, without, is_held, released}
 use Rattle.fx_keys.proofs.Orders.{hold_total, hold_exact}
 

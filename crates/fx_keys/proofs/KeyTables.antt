@@ -16,9 +16,9 @@ use Rattle.std.proofs.lemmas.List.Sums.{sum_by-cons}
 use Rattle.std.proofs.lemmas.Map.Keys.{IsDistinct-push}
 use Rattle.std.proofs.lemmas.Map.Made.{length-le_from_is_member, All-is_member}
 use Rattle.smallvec.specs.SmallVec.{SmallVec, HasRoomFor}
-use Rattle.fx_keys.specs.declared.lock.LockKey.{LockKey}
-use Rattle.fx_keys.specs.declared.lock.Mode.{Mode}
-use Rattle.fx_keys.specs.declared.lock.Mode.TheVariants.{Share, Change, Write, Read}
+use Rattle.fx_item.specs.declared.lock.LockKey.{LockKey}
+use Rattle.fx_item.specs.declared.lock.Mode.{Mode}
+use Rattle.fx_item.specs.declared.lock.Mode.TheVariants.{Share, Change, Write, Read}
 use Rattle.fx_keys.specs.declared.array.Holder.{Holder}
 use Rattle.fx_keys.specs.declared.array.Entry.{Entry}
 use Rattle.fx_keys.specs.declared.rooms.Room.{Room}

@@ -5,9 +5,10 @@ use Rattle.std.specs.Cmp.{IsTotalOrder, then_total, on_total, nat_cmp_total, tie
 use Rattle.std.specs.FinMap as map
 use Rattle.std.specs.FinMap.{IsAntisymmetric, nat_cmp-IsAntisymmetric, get-insert, get-retain_keys}
 use Rattle.std.proofs.lemmas.Bool.{eqb-false}
-use Rattle.fx_keys.specs.declared.lock.LockKey.{LockKey}
-use Rattle.fx_keys.specs.declared.lock.Mode.{Mode}
-use Rattle.fx_keys.specs.Table.{key_cmp, hold_cmp}
+use Rattle.fx_item.specs.declared.lock.LockKey.{LockKey}
+use Rattle.fx_item.specs.declared.lock.Mode.{Mode}
+use Rattle.fx_item.specs.LockKey.{key_cmp}
+use Rattle.fx_keys.specs.Table.{hold_cmp}
 
 pub key_total : IsTotalOrder key_cmp
 key_total = then_total (on_total (λ (k : LockKey). k.store) nat_cmp_total) (on_total (λ (k : LockKey). k.id) nat_cmp_total)

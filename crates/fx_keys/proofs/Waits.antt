@@ -2,10 +2,11 @@
 use Rattle.std.proofs.Common.{◌≡◌, ◌≢◌, ℕ, true, false, cond, ◌==◌, List, [], ◌∷◌, Option, Some, None, Less, refl, sym, ap, ◌∙◌, subst, eqb-true}
 use Rattle.std.proofs.lemmas.Bool.{eqb-false}
 use Rattle.std.specs.FinMap as map
-use Rattle.fx_keys.specs.declared.lock.LockKey.{LockKey}
-use Rattle.fx_keys.specs.declared.lock.Mode.{Mode}
+use Rattle.fx_item.specs.declared.lock.LockKey.{LockKey}
+use Rattle.fx_item.specs.declared.lock.Mode.{Mode}
 use Rattle.fx_keys.specs.declared.table.Asked.TheVariants.{Held, Busy}
-use Rattle.fx_keys.specs.Table.{Table, key_cmp, mode_of, IsAboveKeysOf}
+use Rattle.fx_item.specs.LockKey.{key_cmp}
+use Rattle.fx_keys.specs.Table.{Table, mode_of, IsAboveKeysOf}
 use Rattle.fx_keys.specs.Waiting.{Call, Room, Ask, Raise, DropAll, caller_of, MayBeMade, Did, IsNoReader, IsDisciplined, Reaches, Request, ToHold, ToWrite, refused, request_of, IsInTheWay, IsChain}
 use Rattle.fx_keys.proofs.Orders.{key_total, key_irreflexive, get-insert_other, get-left_other}
 

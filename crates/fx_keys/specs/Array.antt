@@ -5,16 +5,17 @@ use Rattle.std.specs.List.Sorted.{IsStrictlySortedBy}
 use Rattle.std.specs.Ordering.{nat_cmp}
 use Rattle.std.specs.FinMap as finite
 use Rattle.std.specs.declared.cmp.Ordering.TheVariants.{Less, Greater}
-use Rattle.fx_keys.specs.declared.lock.LockKey.{LockKey}
-use Rattle.fx_keys.specs.declared.lock.Mode.{Mode}
-use Rattle.fx_keys.specs.declared.lock.Mode.TheVariants.{Write}
+use Rattle.fx_item.specs.declared.lock.LockKey.{LockKey}
+use Rattle.fx_item.specs.declared.lock.Mode.{Mode}
+use Rattle.fx_item.specs.declared.lock.Mode.TheVariants.{Write}
 use Rattle.fx_keys.specs.declared.table.TheConstants.{MAX_NUMBERS}
 use Rattle.fx_keys.specs.declared.table.Asked.{Asked}
 use Rattle.fx_keys.specs.declared.table.Asked.TheVariants.{Held, Busy}
 use Rattle.fx_keys.specs.declared.array.Holder.{Holder}
 use Rattle.fx_keys.specs.declared.array.Entry.{Entry}
 use Rattle.fx_keys.specs.Conflict.{are_conflicting}
-use Rattle.fx_keys.specs.Table.{key_cmp, hold_cmp, IsLeast}
+use Rattle.fx_item.specs.LockKey.{key_cmp}
+use Rattle.fx_keys.specs.Table.{hold_cmp, IsLeast}
 
 -- the holds of one key
 abbrev pub holds_at : Entry → List ((LockKey × ℕ) × Mode)

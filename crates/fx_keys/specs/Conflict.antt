@@ -1,7 +1,7 @@
 -- Which modes exclude one another.
 use Rattle.std.specs.Prelude.{Bool, true, false}
-use Rattle.fx_keys.specs.declared.lock.Mode.{Mode}
-use Rattle.fx_keys.specs.declared.lock.Mode.TheVariants.{Share, Change, Write, Read}
+use Rattle.fx_item.specs.declared.lock.Mode.{Mode}
+use Rattle.fx_item.specs.declared.lock.Mode.TheVariants.{Share, Change, Write, Read}
 
 -- whether a hold in the first mode conflicts with another number's in the second
 abbrev pub are_conflicting : Mode → Mode → Bool

@@ -5,8 +5,8 @@ use Rattle.std.specs.Ordering.{nat_cmp}
 use Rattle.std.specs.FinMap as finite
 use Rattle.std.specs.Global.{Global}
 use Rattle.smallvec.specs.SmallVec.{SmallVec}
-use Rattle.fx_keys.specs.declared.lock.LockKey.{LockKey}
-use Rattle.fx_keys.specs.declared.lock.Mode.{Mode}
+use Rattle.fx_item.specs.declared.lock.LockKey.{LockKey}
+use Rattle.fx_item.specs.declared.lock.Mode.{Mode}
 use Rattle.fx_keys.specs.declared.table.TheConstants.{MAX_NUMBERS}
 use Rattle.fx_keys.specs.declared.array.Entry.{Entry}
 use Rattle.fx_keys.specs.declared.rooms.Room.{Room}

@@ -6,17 +6,14 @@ use Rattle.std.specs.FinMap as map
 use Rattle.std.specs.Coded.{Coded, code_by, coded×, coded_ℕ}
 use Rattle.std.specs.declared.cmp.Ordering.{Ordering}
 use Rattle.std.specs.declared.cmp.Ordering.TheVariants.{Less}
-use Rattle.fx_keys.specs.declared.lock.LockKey.{LockKey}
-use Rattle.fx_keys.specs.declared.lock.Mode.{Mode}
-use Rattle.fx_keys.specs.declared.lock.Mode.TheVariants.{Change, Write, Read}
+use Rattle.fx_item.specs.declared.lock.LockKey.{LockKey}
+use Rattle.fx_item.specs.declared.lock.Mode.{Mode}
+use Rattle.fx_item.specs.declared.lock.Mode.TheVariants.{Change, Write, Read}
+use Rattle.fx_item.specs.LockKey.{key_cmp}
 use Rattle.fx_keys.specs.declared.table.TheConstants.{MAX_NUMBERS}
 use Rattle.fx_keys.specs.declared.table.Asked.{Asked}
 use Rattle.fx_keys.specs.declared.table.Asked.TheVariants.{Held, Busy}
 use Rattle.fx_keys.specs.Conflict.{are_conflicting}
-
--- by store, then by id
-abbrev pub key_cmp : LockKey → LockKey → Ordering
-key_cmp j k = ordering_then (nat_cmp j.store k.store) (nat_cmp j.id k.id)
 
 -- by key, then by number
 abbrev pub hold_cmp : LockKey × ℕ → LockKey × ℕ → Ordering

@@ -1,8 +1,8 @@
 -- Runs of calls, who waits for whom after one, and that no numbers wait in a circle.
 use Rattle.std.specs.Prelude.{◌≡◌, ◌≢◌, ℕ, ◌<◌, ◌==◌, List, [], ◌∷◌, Option, None, Some, if◌then◌else◌}
-use Rattle.fx_keys.specs.declared.lock.LockKey.{LockKey}
-use Rattle.fx_keys.specs.declared.lock.Mode.{Mode}
-use Rattle.fx_keys.specs.declared.lock.Mode.TheVariants.{Change, Write, Read}
+use Rattle.fx_item.specs.declared.lock.LockKey.{LockKey}
+use Rattle.fx_item.specs.declared.lock.Mode.{Mode}
+use Rattle.fx_item.specs.declared.lock.Mode.TheVariants.{Change, Write, Read}
 use Rattle.fx_keys.specs.declared.table.Asked.{Asked}
 use Rattle.fx_keys.specs.declared.table.Asked.TheVariants.{Held, Busy}
 use Rattle.fx_keys.specs.Table.{Table, empty_table, mode_of, room_of, HasSeatFor, IsAboveKeysOf, IsNextToRaise, Blocks, Reads, GainsRoom, Leaves, AskGives, RaiseGives}

@@ -4,8 +4,8 @@ ghost use Rattle.smallvec.specs.SmallVec.{HasRoomFor};
 ghost use Rattle.fx_keys.specs.Array.{in_the_way, IsLeastOf, Locates, IsKeyArray, HasPlaceAt, mode_at, JoinGives, RisesGives, HoldGives, with_holder, raised_by, released, LeavesKey};
 
 use crate::conflict::conflicts;
-use crate::lock::{LockKey, Mode};
 use crate::table::{Asked, MAX_NUMBERS};
+use fx_item::{LockKey, Mode};
 use smallvec::SmallVec;
 
 /// A number that holds a key.

@@ -2,7 +2,7 @@
 ghost use Rattle.std.specs.Prelude.{◌≡◌};
 ghost use Rattle.fx_keys.specs.Conflict.{are_conflicting};
 
-use crate::lock::Mode;
+use fx_item::Mode;
 
 /// Whether a hold keeps another number from holding the same key in the mode that it asks for.
 pub fn conflicts(held: Mode, asked: Mode) -> bool

@@ -7,12 +7,11 @@
 
 mod array;
 mod conflict;
-mod lock;
 mod rooms;
 mod table;
 mod waiting;
 
 pub use conflict::conflicts;
-pub use lock::{LockKey, Mode};
+pub use fx_item::{LockKey, Mode};
 pub use table::{Asked, KeyTable, MAX_NUMBERS};
 pub use waiting::waiting_has_no_cycle;

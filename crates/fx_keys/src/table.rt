@@ -3,8 +3,8 @@ ghost use Rattle.std.specs.Prelude.{◌≡◌, ◌≢◌, ◌<◌, Some, OnOk, O
 ghost use Rattle.fx_keys.specs.Table.{empty_table, mode_of, room_of, HasSeatFor, GainsRoom, IsConsistent, IsAboveKeysOf, IsNextToRaise, AskGives, RaiseGives, Leaves};
 
 use crate::array::{Entry, hold, raise_hold, release};
-use crate::lock::{LockKey, Mode};
 use crate::rooms::{Room, forget, give, promised, spend};
+use fx_item::{LockKey, Mode};
 use smallvec::SmallVec;
 use std::alloc::{AllocError, Global};
 use std::marker::Model;
@@ -31,8 +31,8 @@ pub struct KeyTable {
 }
 
 impl Model for KeyTable {
-    ghost use Rattle.fx_keys.specs.contracts.lock.LockKey as lock_key;
-    ghost use Rattle.fx_keys.specs.contracts.lock.Mode as lock_mode;
+    ghost use Rattle.fx_item.specs.contracts.lock.LockKey as lock_key;
+    ghost use Rattle.fx_item.specs.contracts.lock.Mode as lock_mode;
     ghost use Rattle.fx_keys.specs.Table.{Table, table_code};
 
     ghost Value = { Table };

@@ -5,3 +5,4 @@ pub mod Marks
 pub mod Files
 pub mod Walks
 pub mod Trees
+pub mod Growth

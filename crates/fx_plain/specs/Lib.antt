@@ -4,3 +4,4 @@ pub mod Table
 pub mod Codes
 pub mod Memory
 pub mod Kinds
+pub mod Growth

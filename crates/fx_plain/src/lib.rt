@@ -2,6 +2,8 @@
 #![tactic(auto)]
 
 mod contents;
+mod kind;
+mod names;
 mod node;
 mod path;
 mod plain;
@@ -10,6 +12,8 @@ mod step;
 mod tests;
 
 pub use contents::{BLOCK_BYTES, MAX_FILE, MAX_READ};
+pub use kind::Kind;
+pub use names::Names;
 pub use path::{MAX_NAMES, Path};
-pub use plain::{Plain, step_laws};
+pub use plain::{Plain, size_laws, step_laws};
 pub use step::{Answer, Refusal, Step, Steps};

@@ -1,5 +1,5 @@
 //! The tree in memory, and what a step does to it.
-ghost use Rattle.std.specs.Prelude.{◌≡◌, ◌≢◌, ◌+◌, ◌^◌, ◌<◌, ◌≤◌, true, false, sum_by, length, option_copied, None, Some, Ok, Err, OnOk, OnErr, IfOk, MatchResult};
+ghost use Rattle.std.specs.Prelude.{List, ◌≡◌, ◌≢◌, ◌+◌, ◌^◌, ◌<◌, ◌≤◌, true, false, sum_by, length, option_copied, None, Some, Ok, Err, OnOk, OnErr, IfOk, MatchResult};
 ghost use Rattle.std.specs.FinMap as map;
 ghost use Rattle.fx_plain.specs.Node.{Node, File, Attributes, Contents, written};
 ghost use Rattle.std.specs.BTreeMap.{values};
@@ -9,6 +9,7 @@ ghost use Rattle.fx_plain.specs.declared.step.Answer.{Answer};
 ghost use Rattle.fx_plain.specs.declared.step.Refusal.{Refusal};
 ghost use Rattle.fx_plain.specs.Table.{create, do_step, is_reading, mkdir, obstacle, place, read_at, walk, write_at};
 ghost use Rattle.fx_plain.specs.Memory.{file_at};
+ghost use Rattle.fx_plain.specs.Growth.{Grows, IsWithin, tree_after};
 
 use crate::contents::{Contents, MAX_FILE, MAX_READ};
 use crate::node::Node;
@@ -264,4 +265,13 @@ pub fn step_laws()
     ensures read { (tree : Tree) (step : Step) → is_reading step ≡ true → (do_step tree step).1 ≡ tree }
     ensures changed { (tree : Tree) (step : Step) (answer : Answer) → is_reading step ≡ false → (do_step tree step).0 ≡ Ok answer → answer ≡ Answer.Done }
     ensures seen { (tree : Tree) (step : Step) → is_reading step ≡ true → (do_step tree step).0 ≢ Ok Answer.Done }
+{}
+
+/// A step adds at most one node, at most the blocks of a text that it writes and at most those of
+/// one file, and no attributes. So after `n` steps from the root alone there are at most `n` nodes
+/// and `4096 n` held blocks.
+pub fn size_laws()
+    ensures grows { (tree : Tree) (step : Step) → Grows step (sizes_of tree) (sizes_of (do_step tree step).1) }
+    ensures root { IsWithin 0 (sizes_of root) }
+    ensures within { (steps : List Step) → IsWithin (length steps) (sizes_of (tree_after root steps)) }
 {}

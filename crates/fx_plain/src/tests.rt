@@ -1,7 +1,7 @@
 //! Steps on a tree that begins as the root alone. A row is a step in words, an arrow, and what it
 //! answers: `done`, the refusal's name in small letters, or the text that is read after a `=`.
-use crate::{Answer, Path, Plain, Refusal, Step, Steps, step_laws};
-use fx_item::{Bytes, Name};
+use crate::{Answer, Path, Plain, Refusal, Step, Steps, size_laws, step_laws};
+use fx_item::{Bytes, Name, Sizes};
 use std::alloc::{AllocError, Global};
 use std::process::Abort;
 use std::test::Fail;
@@ -147,5 +147,50 @@ fn copies_are_the_same(rt: HostRuntime) -> Result<(), Fail> {
     }
     assert!(rt; is_wanted(&plain.step(rt.alloc(), &step)?, "exists"));
     step_laws();
+    Ok(())
+}
+
+/// What a tree holds after the steps of the first rows, each done or refused.
+fn sizes_after(alloc: Global, rows: &[&str], count: u8) -> Result<Sizes, Fail> {
+    size_laws();
+    let mut plain = Plain::new(alloc)?;
+    for i in 0..count {
+        let row = rows.get(i as usize).ok_or("no such row")?;
+        let step = step_of(alloc, row)?;
+        let _answer = plain.step(alloc, &step)?;
+    }
+    Ok(plain.sizes())
+}
+
+const SIZES: [&str; 8] = [
+    "mkdir /v",
+    "create /v/a",
+    "mkdir /v",
+    "write /v/a 4095 xy",
+    "write /v/a 4095 xyz",
+    "write /v/a 16777215 x",
+    "create /v/b",
+    "write /v/b 16777216 x",
+];
+
+// The text of two bytes covers the blocks 0 and 1, the longer one the same, and the last one block 4,095.
+#[test]
+fn sizes_are_counted(rt: HostRuntime) -> Result<(), Fail> {
+    for (count, nodes, blocks) in [
+        (0, 0, 0),
+        (1, 1, 0),
+        (3, 2, 0),
+        (4, 2, 2),
+        (5, 2, 2),
+        (6, 2, 3),
+        (8, 3, 3),
+    ] {
+        let wanted = Sizes {
+            nodes,
+            attributes: 0,
+            blocks,
+        };
+        assert_eq!(rt; sizes_after(rt.alloc(), &SIZES, count)?, wanted);
+    }
     Ok(())
 }

@@ -21,14 +21,14 @@ pub enum Line {
 pub(crate) fn is_ascii(line: &[u8]) -> bool
     ensures { result ≡ list_all is_ascii line.now }
 {
-    line.iter().all(|b| b.is_ascii())
+    line.is_ascii()
 }
 
 /// Whether a word is the `;` that parts the steps of a group.
 fn has_semicolon(mut words: Pieces<'_>) -> bool
     ensures { result ≡ has_semicolon words.entry }
 {
-    words.any(|word| word == b";".as_slice())
+    words.may_have(b';') && words.any(|word| word == b";".as_slice())
 }
 
 /// What the words of a line say.

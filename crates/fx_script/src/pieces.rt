@@ -1,8 +1,10 @@
 //! Texts cut into pieces.
-ghost use Rattle.std.specs.Prelude.{◌≡◌, [], ◌∷◌};
+ghost use Rattle.std.specs.Prelude.{All, ◌≡◌, ◌⊎◌, [], ◌∷◌, false, true};
 ghost use Rattle.std.specs.Iterator.{YieldsFirstRef, item_count};
+ghost use Rattle.fx_item.specs.Name.{has_byte};
 ghost use Rattle.fx_script.specs.Cut.{cut, is_blank, lines_of};
 
+use memchr::memchr;
 use std::marker::Model;
 
 /// The pieces of a text between its bytes that are the separator: one more than there are such bytes.
@@ -60,6 +62,16 @@ impl<'a> Pieces<'a> {
         }
     }
 
+    /// Whether the byte stands in what is left. Where it does not, no piece has it.
+    pub fn may_have(&self, byte: u8) -> bool
+        ensures { (result ≡ true) ⊎ All (λ piece. has_byte byte piece ≡ false) self.now }
+    {
+        match self.rest {
+            None => false,
+            Some(rest) => memchr(byte, rest).is_some(),
+        }
+    }
+
     /// Whether no piece is left, or nothing but an empty one.
     pub fn is_blank(&self) -> bool
         ensures { result ≡ is_blank self.now }
@@ -79,9 +91,8 @@ impl<'a> Iterator for Pieces<'a> {
     ghost remaining = { item_count (λ pieces. pieces) };
 
     fn next(&mut self) -> Option<&'a [u8]> {
-        let separator = self.separator;
         let rest = self.rest?;
-        match rest.iter().position(|b| *b == separator) {
+        match memchr(self.separator, rest) {
             Some(end) => {
                 self.rest = Some(&rest[end + 1..]);
                 Some(&rest[..end])

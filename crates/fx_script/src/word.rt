@@ -1,7 +1,8 @@
 //! What one word of a line stands for.
-ghost use Rattle.std.specs.Prelude.{◌≡◌};
+ghost use Rattle.std.specs.Prelude.{◌≡◌, IfOk};
 ghost use Rattle.std.specs.List.{list_all};
 ghost use Rattle.std.specs.Char.{is_ascii_digit};
+ghost use Rattle.percent_encoding.specs.Percent as percent;
 ghost use Rattle.fx_script.specs.Word.{is_decimal, number_of, text_of, name_of, path_of, names_of, few_names_of};
 ghost use Rattle.fx_script.specs.Line.{IsUnlessMemory};
 ghost use Rattle.fx_script.specs.Cut.{cut};
@@ -10,8 +11,9 @@ use crate::fault::LineFault;
 use crate::pieces::Pieces;
 use fx_item::{Bytes, Name, is_name};
 use fx_plain::{MAX_NAMES, Path};
+use memchr::memchr;
 use percent_encoding::percent_decode;
-use std::alloc::Global;
+use std::alloc::{AllocError, Global};
 use std::str;
 
 /// Whether each byte is a digit.
@@ -44,6 +46,18 @@ pub fn read_number(word: &[u8]) -> Result<u32, LineFault>
     }
 }
 
+/// The bytes of the word, each `%XX` decoded. A word without `%` is copied at once.
+fn decode(alloc: Global, word: &[u8]) -> Result<Vec<u8>, AllocError>
+    ensures { IfOk result (λ bytes. bytes.items ≡ percent.percent_decode word.now) }
+{
+    if memchr(b'%', word).is_none() {
+        return Vec::from_slice(alloc, word);
+    }
+    let mut bytes = Vec::with_capacity(alloc, word.len())?;
+    percent_decode(word).append_to(&mut bytes)?;
+    Ok(bytes)
+}
+
 /// The text that the word stands for.
 pub fn read_text(alloc: Global, word: &[u8]) -> Result<Bytes, LineFault>
     ensures { IsUnlessMemory result (text_of word.now) }
@@ -51,8 +65,7 @@ pub fn read_text(alloc: Global, word: &[u8]) -> Result<Bytes, LineFault>
     if word.is_empty() {
         return Err(LineFault::BadText);
     }
-    let mut bytes = Vec::new(alloc);
-    percent_decode(word).append_to(&mut bytes)?;
+    let bytes = decode(alloc, word)?;
     Ok(Bytes::new(bytes))
 }
 
@@ -60,8 +73,7 @@ pub fn read_text(alloc: Global, word: &[u8]) -> Result<Bytes, LineFault>
 fn read_name(alloc: Global, piece: &[u8]) -> Result<Name, LineFault>
     ensures { IsUnlessMemory result (name_of piece.now) }
 {
-    let mut letters = Vec::new(alloc);
-    percent_decode(piece).append_to(&mut letters)?;
+    let letters = decode(alloc, piece)?;
     if !is_name(letters.as_slice()) {
         return Err(LineFault::BadPath);
     }
@@ -72,7 +84,8 @@ fn read_name(alloc: Global, piece: &[u8]) -> Result<Name, LineFault>
 fn read_names(alloc: Global, text: &[u8]) -> Result<Path, LineFault>
     ensures { IsUnlessMemory result (few_names_of (cut 47 text.now)) }
 {
-    let mut names = Vec::new(alloc);
+    // Room for a volume and a node in it, as most paths have.
+    let mut names = Vec::with_capacity(alloc, 2)?;
     for piece in Pieces::new(text, b'/') {
         if names.len() == MAX_NAMES {
             return Err(LineFault::BadPath);

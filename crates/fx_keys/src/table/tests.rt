@@ -4,7 +4,8 @@ ghost use Rattle.std.specs.List.{list_all};
 ghost use Rattle.std.specs.Ordering.{is_lt};
 ghost use Rattle.fx_keys.specs.Array.{mode_among as mode_in, IsKeyArray, mode_at};
 ghost use Rattle.fx_keys.specs.Rooms.{places_of};
-ghost use Rattle.fx_keys.specs.Table.{key_cmp, HasSeatFor, IsAboveKeysOf, IsNextToRaise, mode_of, room_of};
+ghost use Rattle.fx_item.specs.LockKey.{key_cmp};
+ghost use Rattle.fx_keys.specs.Table.{HasSeatFor, IsAboveKeysOf, IsNextToRaise, mode_of, room_of};
 
 use super::*;
 use crate::array::{Holder, locate};

@@ -1,5 +1,5 @@
 use Rattle.std.proofs.Common.{subst, Ok, Err}
-use Rattle.fx_keys.specs.declared.lock.Mode.TheVariants.{Change}
+use Rattle.fx_item.specs.declared.lock.Mode.TheVariants.{Change}
 use Rattle.fx_keys.specs.Array.{RisesGives, Locates}
 use Rattle.fx_keys.proofs.KeyArrays.{risen, not_absent}
 use Rattle.fx_keys.proofs.array.raise_hold.Goals as goal

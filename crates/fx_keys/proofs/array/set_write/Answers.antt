@@ -1,6 +1,6 @@
 use Rattle.std.proofs.Common.{◌<◌, length, set, get_or, ap, ◌∙◌, arith}
 use Rattle.std.proofs.lemmas.List.Edits.{map_over_more}
-use Rattle.fx_keys.specs.declared.lock.Mode.TheVariants.{Share}
+use Rattle.fx_item.specs.declared.lock.Mode.TheVariants.{Share}
 use Rattle.fx_keys.specs.declared.array.Holder.{Holder}
 use Rattle.fx_keys.specs.Array.{raised_by}
 use Rattle.fx_keys.proofs.Retained.{any_default}

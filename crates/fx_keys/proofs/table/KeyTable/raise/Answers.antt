@@ -1,5 +1,5 @@
 use Rattle.std.proofs.Common.{◌≡◌, sym, ◌∙◌, subst, Some}
-use Rattle.fx_keys.specs.declared.lock.Mode.TheVariants.{Change}
+use Rattle.fx_item.specs.declared.lock.Mode.TheVariants.{Change}
 use Rattle.fx_keys.specs.Table.{mode_of, RaiseGives}
 use Rattle.fx_keys.specs.Rooms.{table_of}
 use Rattle.fx_keys.proofs.KeyTables.{mode_of-table, raised_sound, raised_gives}

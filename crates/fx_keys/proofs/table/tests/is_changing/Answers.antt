@@ -1,5 +1,5 @@
 use Rattle.std.proofs.Common.{◌≡◌, ap, sym, ◌∙◌, Some, Ok}
-use Rattle.fx_keys.specs.declared.lock.Mode.TheVariants.{Change}
+use Rattle.fx_item.specs.declared.lock.Mode.TheVariants.{Change}
 use Rattle.fx_keys.specs.Array.{Locates, mode_among}
 use Rattle.fx_keys.proofs.KeyArrays.{mode_at-get}
 use Rattle.fx_keys.proofs.table.tests.is_changing.Goals as goal

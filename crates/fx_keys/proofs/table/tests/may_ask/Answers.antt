@@ -4,7 +4,8 @@ use Rattle.std.specs.Ordering.{is_lt}
 use Rattle.fx_keys.specs.declared.array.Entry.{Entry}
 use Rattle.fx_keys.specs.Array.{mode_among}
 use Rattle.fx_keys.specs.Rooms.{places_of}
-use Rattle.fx_keys.specs.Table.{key_cmp, room_of, IsAboveKeysOf}
+use Rattle.fx_item.specs.LockKey.{key_cmp}
+use Rattle.fx_keys.specs.Table.{room_of, IsAboveKeysOf}
 use Rattle.fx_keys.proofs.KeyChecks.{above_from}
 use Rattle.fx_keys.proofs.KeyTables.{room_of-table}
 use Rattle.fx_keys.proofs.table.tests.may_ask.Goals as goal

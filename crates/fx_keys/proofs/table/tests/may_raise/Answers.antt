@@ -1,10 +1,11 @@
 use Rattle.std.proofs.Common.{◌≡◌, ◌||◌, not, is_none, ap, sym, ◌∙◌, subst, Some}
 use Rattle.std.specs.List.{list_all}
 use Rattle.std.specs.Ordering.{is_lt}
-use Rattle.fx_keys.specs.declared.lock.Mode.TheVariants.{Change}
+use Rattle.fx_item.specs.declared.lock.Mode.TheVariants.{Change}
 use Rattle.fx_keys.specs.declared.array.Entry.{Entry}
 use Rattle.fx_keys.specs.Array.{mode_among, mode_at}
-use Rattle.fx_keys.specs.Table.{key_cmp, mode_of, IsNextToRaise}
+use Rattle.fx_item.specs.LockKey.{key_cmp}
+use Rattle.fx_keys.specs.Table.{mode_of, IsNextToRaise}
 use Rattle.fx_keys.proofs.KeyChecks.{first_from}
 use Rattle.fx_keys.proofs.KeyTables.{mode_of-table}
 use Rattle.fx_keys.proofs.table.tests.may_raise.Goals as goal

@@ -1,7 +1,7 @@
-use Rattle.std.proofs.Common.{rules, arith, sym, ap, ◌∙◌, add-one, length}
+use Rattle.std.proofs.Common.{arith, sym, ap, ◌∙◌, add-one, length}
 use Rattle.std.proofs.lemmas.List.{take_rest}
 use Rattle.fx_script.specs.Cut.{cut_rest}
-use Rattle.fx_script.proofs.Cuts.{cut_at, cut_whole}
+use Rattle.fx_script.proofs.Found.{cut_found, cut_not_found}
 use Rattle.fx_script.proofs.pieces.PiecesIterator.next.Goals as goal
 
 -- the piece ends at the first separator
@@ -10,7 +10,7 @@ returns-in-Some-clause-steps c =
     let separator = c.self.inside.separator in
     sym c.self.view_is
     ∙ ap (cut_rest separator) c.in_ok-rest.was
-    ∙ cut_at separator c.in_ok-rest.rest.now c.in-Some.end (search rules) (search rules) (search rules)
+    ∙ cut_found separator c.in_ok-rest.rest.now c.in-Some.end c.in-Some.ensures
     ∙ simp (take_rest, add-one)
 
 pub returns-in-Some-clause-goes : goal.returns-in-Some-clause-goes
@@ -22,7 +22,7 @@ returns-in-None-clause-steps c =
     let separator = c.self.inside.separator in
     sym c.self.view_is
     ∙ ap (cut_rest separator) c.in_ok-rest.was
-    ∙ cut_whole separator c.in_ok-rest.rest.now (search rules)
+    ∙ cut_not_found separator c.in_ok-rest.rest.now c.in-None.ensures
 
 pub returns-in-None-clause-goes : goal.returns-in-None-clause-goes
 returns-in-None-clause-goes c =
