@@ -8,7 +8,7 @@ use Rattle.fx_disk.specs.Steps.{with_call}
 use Rattle.fx_disk.proofs.Left.{cell_now-with_call}
 
 -- what every call keeps of a cell holds of the cell after all of them
-pub by_calls : (P : Cell → Type 0) (b : ℕ) → ((cell : Cell) (bytes : List ℕ) (ok : Bool) → P cell → P (written_cell bytes ok cell)) → ((cell : Cell) → cell.failed ≡ false → P cell → P (settled_cell cell.bytes))
+pub by_calls : (P : Cell → Type 0) (b : ℕ) → ((cell : Cell) (bytes : List ℕ) (ok : Bool) → P cell → P (written_cell bytes ok cell)) → ((cell : Cell) → cell.failed ≡ false → P cell → P (settled_cell cell))
     → (calls : List Call) (cell : Cell) → P cell → P (after_calls b calls cell)
 by_calls P b write flush [] cell h = h
 by_calls P b write flush (Write at bytes ok ∷ calls) cell h =
@@ -16,8 +16,8 @@ by_calls P b write flush (Write at bytes ok ∷ calls) cell h =
 by_calls P b write flush (Flush true ∷ calls) cell h =
     by_calls P b write flush calls (after_call b (Flush true) cell)
     (⊎_elim
-    (λ failed. subst (λ (t : Bool). P (if not t then settled_cell cell.bytes else cell)) (sym failed) h)
-    (λ good. subst (λ (t : Bool). P (if not t then settled_cell cell.bytes else cell)) (sym good) (flush cell good h))
+    (λ failed. subst (λ (t : Bool). P (if not t then settled_cell cell else cell)) (sym failed) h)
+    (λ good. subst (λ (t : Bool). P (if not t then settled_cell cell else cell)) (sym good) (flush cell good h))
     (cases_Bool cell.failed))
 by_calls P b write flush (Flush false ∷ calls) cell h = by_calls P b write flush calls cell h
 
@@ -75,7 +75,7 @@ candidates-write r b bytes ok contents value held = ⊎_elim (λ old. inl old) (
     (Contains-append_cases (candidates (cell_now r b)) (bytes ∷ []) value (subst (λ (c : Cell). Contains (candidates c) value) (after-write r b bytes ok contents) held))
 
 flush-step : (ok : Bool) (cell : Cell) (value : List ℕ) → Contains (candidates cell) cell.bytes → Contains (candidates (flushed_cell ok cell)) value → Contains (candidates cell) value
-flush-step ok cell value last = elim (ok && not cell.failed) as (λ t. Contains (candidates (if t then settled_cell cell.bytes else cell)) value → Contains (candidates cell) value)
+flush-step ok cell value last = elim (ok && not cell.failed) as (λ t. Contains (candidates (if t then settled_cell cell else cell)) value → Contains (candidates cell) value)
     [ true ↦ (λ held. subst (λ (x : List ℕ). Contains (candidates cell) x) (one-is cell.bytes value held) last) | false ↦ (λ held. held) ]
 
 -- a flush brings no candidate
@@ -88,14 +88,14 @@ pub after-failed_flush : (r : DiskRecord) (b : ℕ) (contents : List (List ℕ))
 after-failed_flush r b contents = cell_now-with_call r (Flush false) contents b
 
 -- a good flush settles each block whose last write was good
-pub after-good_flush : (r : DiskRecord) (b : ℕ) (contents : List (List ℕ)) → (cell_now r b).failed ≡ false → cell_now (with_call r (Flush true) contents) b ≡ settled_cell (cell_now r b).bytes
-after-good_flush r b contents good = cell_now-with_call r (Flush true) contents b ∙ ap (λ (t : Bool). if not t then settled_cell (cell_now r b).bytes else cell_now r b) good
+pub after-good_flush : (r : DiskRecord) (b : ℕ) (contents : List (List ℕ)) → (cell_now r b).failed ≡ false → cell_now (with_call r (Flush true) contents) b ≡ settled_cell (cell_now r b)
+after-good_flush r b contents good = cell_now-with_call r (Flush true) contents b ∙ ap (λ (t : Bool). if not t then settled_cell (cell_now r b) else cell_now r b) good
 
 -- a block whose last write failed stays loose over a flush
 pub after-flush_failed : (r : DiskRecord) (b : ℕ) (ok : Bool) (contents : List (List ℕ)) → (cell_now r b).failed ≡ true → cell_now (with_call r (Flush ok) contents) b ≡ cell_now r b
-after-flush_failed r b true contents failed = cell_now-with_call r (Flush true) contents b ∙ ap (λ (t : Bool). if not t then settled_cell (cell_now r b).bytes else cell_now r b) failed
+after-flush_failed r b true contents failed = cell_now-with_call r (Flush true) contents b ∙ ap (λ (t : Bool). if not t then settled_cell (cell_now r b) else cell_now r b) failed
 after-flush_failed r b false contents failed = cell_now-with_call r (Flush false) contents b
 
 -- a good write and then a good flush settle
-pub after-write_flush : (r : DiskRecord) (b : ℕ) (bytes : List ℕ) (contents later : List (List ℕ)) → cell_now (with_call (with_call r (Write b bytes true) contents) (Flush true) later) b ≡ settled_cell bytes
+pub after-write_flush : (r : DiskRecord) (b : ℕ) (bytes : List ℕ) (contents later : List (List ℕ)) → cell_now (with_call (with_call r (Write b bytes true) contents) (Flush true) later) b ≡ settled_cell (written_cell bytes true (cell_now r b))
 after-write_flush r b bytes contents later = cell_now-with_call (with_call r (Write b bytes true) contents) (Flush true) later b ∙ ap (λ (c : Cell). flushed_cell true c) (after-write r b bytes true contents)

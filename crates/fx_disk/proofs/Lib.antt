@@ -3,3 +3,6 @@ pub mod Cells
 pub mod Records
 pub mod Kept
 pub mod Loose
+pub mod Written
+pub mod Settled
+pub mod Told

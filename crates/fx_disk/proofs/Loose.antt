@@ -149,7 +149,7 @@ module _ (r : DiskRecord) (b n : ℕ) where
   Says-flush : (cell : Cell) → call_at r.calls n ≡ Flush true → Says r b n cell → (cell.failed ≡ true) ⊎ (cell.failed ≡ false) → Says r b (n + 1) (flushed_cell true cell)
   Says-flush cell is h (inl failed) =
       let none : IsWriteOf b (call_at r.calls n) → ⊥ = λ w. subst (IsWriteOf b) is w in
-      let e : cell ≡ flushed_cell true cell = ap (λ (t : Bool). if not t then settled_cell cell.bytes else cell) (sym failed) in
+      let e : cell ≡ flushed_cell true cell = ap (λ (t : Bool). if not t then settled_cell cell else cell) (sym failed) in
       subst (λ (c : Cell). Says r b (n + 1) c) e (record {
         loose = λ _. record { flushes = n + 1; last = now-flush is; cause = inr (same-failed none (h.failed failed).0) };
         fixed = λ fixed. absurd (cc (h.failed failed).1);
@@ -161,7 +161,7 @@ module _ (r : DiskRecord) (b n : ℕ) where
       })
   Says-flush cell is h (inr good) =
       let none : IsWriteOf b (call_at r.calls n) → ⊥ = λ w. subst (IsWriteOf b) is w in
-      let e : settled_cell cell.bytes ≡ flushed_cell true cell = ap (λ (t : Bool). if not t then settled_cell cell.bytes else cell) (sym good) in
+      let e : settled_cell cell ≡ flushed_cell true cell = ap (λ (t : Bool). if not t then settled_cell cell else cell) (sym good) in
       subst (λ (c : Cell). Says r b (n + 1) c) e (record {
         loose = λ e. absurd (cc);
         fixed = λ _ f last. let all : f ≡ n + 1 = only-flush f is last in

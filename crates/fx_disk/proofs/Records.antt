@@ -63,12 +63,12 @@ module _ (size calls : ℕ) (r : DiskRecord) (at : ℕ) (bytes : List ℕ) (ok :
 
 -- a flush changes neither a block's bytes nor whether its last write failed
 flushed-bytes : (ok : Bool) (cell : Cell) → (flushed_cell ok cell).bytes ≡ cell.bytes
-flushed-bytes ok cell = elim (ok && not cell.failed) as (λ t. (if t then settled_cell cell.bytes else cell).bytes ≡ cell.bytes) [ true ↦ refl | false ↦ refl ]
+flushed-bytes ok cell = elim (ok && not cell.failed) as (λ t. (if t then settled_cell cell else cell).bytes ≡ cell.bytes) [ true ↦ refl | false ↦ refl ]
 
 flushed-failed : (ok : Bool) (cell : Cell) → (flushed_cell ok cell).failed ≡ cell.failed
 flushed-failed true cell = ⊎_elim
-    (λ failed. ap (λ (t : Bool). (if not t then settled_cell cell.bytes else cell).failed) failed)
-    (λ good. ap (λ (t : Bool). (if not t then settled_cell cell.bytes else cell).failed) good ∙ sym good)
+    (λ failed. ap (λ (t : Bool). (if not t then settled_cell cell else cell).failed) failed)
+    (λ good. ap (λ (t : Bool). (if not t then settled_cell cell else cell).failed) good ∙ sym good)
     (cases_Bool cell.failed)
 flushed-failed false cell = refl
 

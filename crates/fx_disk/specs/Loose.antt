@@ -1,5 +1,6 @@
 -- Loose blocks and the images left, by the places of the calls.
-use Rattle.std.specs.Prelude.{◌≡◌, ℕ, ◌+◌, ◌≤◌, ◌<◌, ◌⊎◌, true, false, List, [], length, slice_index_or}
+use Rattle.std.specs.Prelude.{◌≡◌, ℕ, ◌+◌, ◌≤◌, ◌<◌, ◌⊎◌, ◌↔◌, true, false, List, [], length, map, slice_index_or}
+use Rattle.std.specs.List.{AllPairs, Contains}
 use Rattle.fx_disk.specs.Record.{Call, Write, Flush, DiskRecord, IsBlock, call_at}
 
 abbrev pub IsGoodFlush : Call → Type 0
@@ -55,6 +56,13 @@ abbrev pub IsLastBytes : DiskRecord → ℕ → ℕ → List ℕ → Type 0
 IsLastBytes r b n bytes =
     ((k : ℕ) × IsLastWrite r.calls b n k × (bytes ≡ bytes_of (call_at r.calls k)))
     ⊎ (((k : ℕ) → k < n → IsWriteOf b (call_at r.calls k) → ⊥) × (bytes ≡ slice_index_or r.entry b []))
+
+-- The bytes of every write of the block among the first `n` calls, in the order of the calls.
+pub record AreWrites (calls : List Call) (b n : ℕ) (written : List (List ℕ)) : Type 0 where
+  pub places : List ℕ
+  pub in_order : AllPairs (λ j k. j < k) places
+  pub exact : (k : ℕ) → Contains places k ↔ ((k < n) × IsWriteOf b (call_at calls k))
+  pub bytes : written ≡ map (λ k. bytes_of (call_at calls k)) places
 
 -- An image that a stop at moment `m` may leave: in each block that is not loose the bytes of its last
 -- write, and any bytes in a loose one.

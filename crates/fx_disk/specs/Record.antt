@@ -16,28 +16,35 @@ pub record IsBlock (bytes : List ℕ) : Type 0 where
   pub long : length bytes ≡ 4096
   pub each : (i : ℕ) → i < 4096 → slice_index_or bytes i 0 < 256
 
--- One block at a moment: the bytes of its last write, whether that write failed, whether the block is
--- loose, the last bytes that it held while it was not loose, and the bytes of every write to it since.
+-- One block at a moment: its bytes at entry, the bytes of its last write, whether that write failed,
+-- whether the block is loose, the last bytes that it held while it was not loose, the bytes of every
+-- write to it since then, and those of every write to it since entry.
 pub record Cell : Type 0 where
+  pub entry : List ℕ
   pub bytes : List ℕ
   pub failed : Bool
   pub loose : Bool
   pub settled : List ℕ
   pub since : List (List ℕ)
+  pub written : List (List ℕ)
 
 -- What a loose block may hold if a stop tears no block.
 abbrev pub candidates : Cell → List (List ℕ)
 candidates cell = cell.settled ∷ cell.since
 
-abbrev pub settled_cell : List ℕ → Cell
-settled_cell bytes = record { bytes = bytes; failed = false; loose = false; settled = bytes; since = [] }
+-- A block that was not written yet.
+abbrev pub fresh_cell : List ℕ → Cell
+fresh_cell bytes = record { entry = bytes; bytes = bytes; failed = false; loose = false; settled = bytes; since = []; written = [] }
+
+abbrev pub settled_cell : Cell → Cell
+settled_cell cell = record cell { failed = false; loose = false; settled = cell.bytes; since = [] }
 
 abbrev pub written_cell : List ℕ → Bool → Cell → Cell
-written_cell bytes ok cell = record { bytes = bytes; failed = not ok; loose = true; settled = cell.settled; since = cell.since ++ bytes ∷ [] }
+written_cell bytes ok cell = record cell { bytes = bytes; failed = not ok; loose = true; since = cell.since ++ bytes ∷ []; written = cell.written ++ bytes ∷ [] }
 
 -- A successful flush settles a block whose last write was good.
 abbrev pub flushed_cell : Bool → Cell → Cell
-flushed_cell ok cell = if ok && not cell.failed then settled_cell cell.bytes else cell
+flushed_cell ok cell = if ok && not cell.failed then settled_cell cell else cell
 
 -- The block `b` after a call.
 abbrev pub after_call : ℕ → Call → Cell → Cell
@@ -59,7 +66,7 @@ call_at calls k = slice_index_or calls k (Flush false)
 
 -- The block `b` at entry, after the first `m` calls, and after all.
 abbrev pub cell_first : DiskRecord → ℕ → Cell
-cell_first r b = settled_cell (slice_index_or r.entry b [])
+cell_first r b = fresh_cell (slice_index_or r.entry b [])
 
 abbrev pub cell_after : DiskRecord → ℕ → ℕ → Cell
 cell_after r m b = after_calls b (take m r.calls) (cell_first r b)

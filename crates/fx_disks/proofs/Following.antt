@@ -38,7 +38,7 @@ module _ (r : DiskRecord) (b n flushed : ℕ) (cell : Cell) (t : Track) (h : Tra
   good-flush : t.good ≡ true → Tracks r b (n + 1) (n + 1) (flushed_cell true cell) t
   good-flush good =
       let fixed : is_fixed t (n + 1) ≡ true = ap (λ (x : Bool). x && nat_le t.written (n + 1)) good ∙ le-leb t.written (n + 1) (omega (arith, h.written)) in
-      let done : settled_cell cell.bytes ≡ flushed_cell true cell = sym (ap (λ (x : Bool). if not x then settled_cell cell.bytes else cell) (h.failed ∙ ap not good)) in
+      let done : settled_cell cell ≡ flushed_cell true cell = sym (ap (λ (x : Bool). if not x then settled_cell cell else cell) (h.failed ∙ ap not good)) in
       subst (λ (c : Cell). Tracks r b (n + 1) (n + 1) c t) done (record {
         written = omega (arith, h.written);
         failed = sym (ap not good);
@@ -51,7 +51,7 @@ module _ (r : DiskRecord) (b n flushed : ℕ) (cell : Cell) (t : Track) (h : Tra
   failed-flush bad =
       let before : is_fixed t flushed ≡ false = ap (λ (x : Bool). x && nat_le t.written flushed) bad in
       let after : is_fixed t (n + 1) ≡ false = ap (λ (x : Bool). x && nat_le t.written (n + 1)) bad in
-      let kept : cell ≡ flushed_cell true cell = sym (ap (λ (x : Bool). if not x then settled_cell cell.bytes else cell) (h.failed ∙ ap not bad)) in
+      let kept : cell ≡ flushed_cell true cell = sym (ap (λ (x : Bool). if not x then settled_cell cell else cell) (h.failed ∙ ap not bad)) in
       subst (λ (c : Cell). Tracks r b (n + 1) (n + 1) c t) kept (record {
         written = omega (arith, h.written);
         failed = h.failed;

@@ -1,0 +1,30 @@
+use Rattle.fx_disk.proofs.Settled.{good-reads, changed-image, changed-value}
+use Rattle.fx_disk.proofs.Told.{changed-told, changed-told_write, good-told_write, changed-told_flush, settled-told_flush, good-told_flush}
+use Rattle.fx_disk.proofs.laws.changed_block.Goals as goal
+
+pub returns-clause-begin : goal.returns-clause-begin
+returns-clause-begin c = changed-told
+
+pub returns-clause-write : goal.returns-clause-write
+returns-clause-write c = changed-told_write
+
+pub returns-clause-good_write : goal.returns-clause-good_write
+returns-clause-good_write c = good-told_write
+
+pub returns-clause-flush : goal.returns-clause-flush
+returns-clause-flush c = changed-told_flush
+
+pub returns-clause-good_flush : goal.returns-clause-good_flush
+returns-clause-good_flush c = settled-told_flush
+
+pub returns-clause-good_still : goal.returns-clause-good_still
+returns-clause-good_still c = good-told_flush
+
+pub returns-clause-reads : goal.returns-clause-reads
+returns-clause-reads c = good-reads
+
+pub returns-clause-image : goal.returns-clause-image
+returns-clause-image c = λ size calls base at values r image h changed left. changed-image size calls base at values r image h changed left
+
+pub returns-clause-value : goal.returns-clause-value
+returns-clause-value c = changed-value
