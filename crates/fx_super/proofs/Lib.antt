@@ -1,0 +1,6 @@
+pub mod Numbers
+pub mod Lists
+pub mod Parts
+pub mod Blocks
+pub mod Chosen
+pub mod Judging
