@@ -1,0 +1,5 @@
+pub mod Record
+pub mod Writing
+pub mod Reading
+pub mod Txns
+pub mod Progress
