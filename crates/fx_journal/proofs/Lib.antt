@@ -1,0 +1,10 @@
+pub mod Runs
+pub mod Standing
+pub mod Telling
+pub mod Counted
+pub mod Buffers
+pub mod Packing
+pub mod Queues
+pub mod Appending
+pub mod Writes
+pub mod Ready

@@ -1,0 +1,133 @@
+use Rattle.std.proofs.Common.{◌≡◌, Some, None, Ok, ℕ, ◌+◌, ◌%◌, ◌-◌, ◌<◌, true, false, List, length, drop, arith, sym, subst, ◌∙◌, ap, refl}
+use Rattle.std.proofs.lemmas.List.{get_or_default, length-drop}
+use Rattle.fx_pool.specs.Region.{Run, IsOut, bytes_of}
+use Rattle.fx_journal.specs.Ring.{RingState, IsRing, KeepsBuffers, KeepsOthers, run_at, next_block, without_first}
+use Rattle.fx_journal.specs.Writing.{first_bytes, wrote, block_at}
+use Rattle.fx_journal.proofs.Buffers.{others-none}
+use Rattle.fx_journal.proofs.Queues.{holds-first, seen-first}
+use Rattle.fx_journal.proofs.Writes.{next-waits, first-written, made-as, ring-without_first}
+use Rattle.fx_journal.proofs.ring.Ring.write_next.Goals as goal
+
+pub returns-in_default : goal.returns-in_default
+returns-in_default g c =
+    let none : next_block c.args.self.now c.args.before ≡ None = sym c.next_to_write.ensures ∙ c.in_default.is in
+    record {
+      answer = ap wrote (sym none);
+      nothing = λ e. refl;
+      nothing_ring = λ e. refl;
+      nothing_pool = λ e. refl;
+      nothing_disk = λ e. refl;
+      made = λ s queue e h. cc;
+      written = λ s e. cc;
+      queue = λ s queue e h. cc;
+      given = refl;
+      ring_size = refl;
+      fault = tt;
+      fault_ring = tt;
+      fault_pool = tt;
+      size = refl;
+      reads = refl;
+      faults = omega arith;
+      ring = subst IsRing c.self.view_is c.self.invariant.0;
+      buffers = c.requires.buffers;
+      others = others-none c.args.self.now.buffers c.args.pool.now;
+    }
+
+pub unreachable-requires : goal.unreachable-requires
+unreachable-requires g c =
+    let some : next_block c.args.self.now c.args.before ≡ Some c.in-Some.sequence = sym c.next_to_write.ensures ∙ c.in-Some.is in
+    let waits : 0 < c.args.self.now.queued = next-waits c.args.self.now c.args.before c.in-Some.sequence some in
+    let bad : false ≡ true = c.in_default-front.ensures.variant.1 (omega (arith, waits, ap (λ (r : RingState). r.queued) c.self.view_is, c.self.invariant.0.buffers_len, c.self.inside.buffers.ok.0)) in
+    cc
+
+pub write_buffer-requires : goal.write_buffer-requires
+write_buffer-requires g c =
+    let i = c.self.inside in
+    let kept : KeepsBuffers i.buffers.items c.args.pool.now = subst (λ (r : RingState). KeepsBuffers r.buffers c.args.pool.now) (sym c.self.view_is) c.requires.buffers in
+    let some : 0 < length i.buffers.items = omega (arith, c.in-Some-front.ensures.variant.0 refl, i.buffers.ok.0) in
+    let at : run_at i.buffers.items 0 ≡ c.in-Some-front.buffer.now = sym (c.in-Some-front.ensures.lookup ∙ get_or_default i.buffers.items 0 c.in-Some-front.buffer.now (record { start = 0; order = 0 }) some) in
+    record {
+      out = subst (λ (r : Run). IsOut c.args.pool.now r) at (kept.out 0 some);
+      single = sym (ap (λ (r : Run). r.order) at) ∙ kept.single 0 some;
+      within = omega (arith, c.requires.disk, c.from.ensures, ap (λ (r : RingState). r.size) c.self.view_is, c.self.invariant.0.least);
+    }
+
+pub returns-in-Err : goal.returns-in-Err
+returns-in-Err g c =
+    let i = c.self.inside in
+    let some : next_block c.args.self.now c.args.before ≡ Some c.in-Some.sequence = sym c.next_to_write.ensures ∙ c.in-Some.is in
+    let here : 0 < length i.buffers.items = omega (arith, c.in-Some-front.ensures.variant.0 refl, i.buffers.ok.0) in
+    let at : run_at c.args.self.now.buffers 0 ≡ c.in-Some-front.buffer.now =
+    ap (λ (r : RingState). run_at r.buffers 0) (sym c.self.view_is)
+    ∙ sym (c.in-Some-front.ensures.lookup ∙ get_or_default i.buffers.items 0 c.in-Some-front.buffer.now (record { start = 0; order = 0 }) here) in
+    let size : c.from.result ≡ c.args.self.now.size = c.from.ensures ∙ ap (λ (r : RingState). r.size) c.self.view_is in
+    record {
+      answer = tt;
+      nothing = λ e. cc;
+      nothing_ring = λ e. cc;
+      nothing_pool = λ e. cc;
+      nothing_disk = λ e. cc;
+      made = λ s queue e h.
+          let same : c.in-Some.sequence ≡ s = cc in
+          made-as _ _ _ _ _ _ _ _ _ _ _ (ap (λ (n : ℕ). 2 + c.in-Some.sequence % n) size ∙ ap (λ (n : ℕ). 2 + n % c.args.self.now.size) same)
+          (ap (bytes_of c.args.pool.now) (sym at) ∙ first-written c.args.self.now c.args.pool.now c.args.before s queue e h) c.in-Err.ensures.made;
+      written = λ s e. tt;
+      queue = λ s queue e h. tt;
+      given = refl;
+      ring_size = refl;
+      fault = c.in-Err.ensures.fault;
+      fault_ring = refl;
+      fault_pool = refl;
+      size = c.in-Err.ensures.size;
+      reads = c.in-Err.ensures.reads;
+      faults = c.in-Err.ensures.faults;
+      ring = subst IsRing c.self.view_is c.self.invariant.0;
+      buffers = c.requires.buffers;
+      others = others-none c.args.self.now.buffers c.args.pool.now;
+    }
+
+pub give_first-requires : goal.give_first-requires
+give_first-requires g c = record {
+  buffers = subst (λ (r : RingState). KeepsBuffers r.buffers c.args.pool.now) (sym c.self.view_is) c.requires.buffers;
+  enough = omega (arith, c.in-Some-front.ensures.variant.0 refl, c.self.inside.buffers.ok.0);
+}
+
+pub returns : goal.returns
+returns g c =
+    let i = c.self.inside in
+    let ring : RingState = record { start = i.start; size = i.size; epoch = i.epoch; closed = i.closed; chain = i.chain; text = i.text.items; promised = i.promised; queued = i.queued; buffers = i.buffers.items } in
+    let some : next_block c.args.self.now c.args.before ≡ Some c.in-Some.sequence = sym c.next_to_write.ensures ∙ c.in-Some.is in
+    let waits : 0 < i.queued = omega (arith, next-waits c.args.self.now c.args.before c.in-Some.sequence some, ap (λ (r : RingState). r.queued) c.self.view_is) in
+    let here : 0 < length i.buffers.items = omega (arith, c.in-Some-front.ensures.variant.0 refl, i.buffers.ok.0) in
+    let at : run_at c.args.self.now.buffers 0 ≡ c.in-Some-front.buffer.now =
+    ap (λ (r : RingState). run_at r.buffers 0) (sym c.self.view_is)
+    ∙ sym (c.in-Some-front.ensures.lookup ∙ get_or_default i.buffers.items 0 c.in-Some-front.buffer.now (record { start = 0; order = 0 }) here) in
+    let size : c.from.result ≡ c.args.self.now.size = c.from.ensures ∙ ap (λ (r : RingState). r.size) c.self.view_is in
+    let left : c.give_first.new.buffers.items ≡ drop 1 i.buffers.items = c.give_first.ensures.left in
+    let leaves : without_first ring ≡ without_first c.args.self.now = ap without_first c.self.view_is in
+    record {
+      answer = ap wrote (sym some);
+      nothing = λ e. cc;
+      nothing_ring = λ e. cc;
+      nothing_pool = λ e. cc;
+      nothing_disk = λ e. cc;
+      made = λ s queue e h.
+          let same : c.in-Some.sequence ≡ s = cc in
+          made-as _ _ _ _ _ _ _ _ _ _ _ (ap (λ (n : ℕ). 2 + c.in-Some.sequence % n) size ∙ ap (λ (n : ℕ). 2 + n % c.args.self.now.size) same)
+          (ap (bytes_of c.args.pool.now) (sym at) ∙ first-written c.args.self.now c.args.pool.now c.args.before s queue e h) c.in_default-write_buffer.ensures.made;
+      written = λ s e. ap (λ (l : List Run). let next : RingState = record { start = i.start; size = i.size; epoch = i.epoch; closed = i.closed; chain = i.chain; text = i.text.items; promised = i.promised; queued = i.queued - 1; buffers = l } in next) left ∙ leaves;
+      queue = λ s queue e.
+          seen-first ring c.args.self.now _ c.args.pool.now c.give_first.new.pool c.self.view_is
+          (holds-first ring i.start i.closed 1 c.give_first.new.buffers.items c.args.pool.now c.give_first.new.pool c.self.invariant.0 refl waits left c.give_first.ensures.bytes) queue;
+      given = omega (arith, c.give_first.ensures.counted, ap length left, length-drop 1 i.buffers.items, here, ap (λ (r : RingState). length r.buffers) c.self.view_is);
+      ring_size = ap (λ (r : RingState). r.size) c.self.view_is;
+      fault = tt;
+      fault_ring = tt;
+      fault_pool = tt;
+      size = c.in_default-write_buffer.ensures.size;
+      reads = c.in_default-write_buffer.ensures.reads;
+      faults = c.in_default-write_buffer.ensures.faults;
+      ring = subst (λ (l : List Run). let next : RingState = record { start = i.start; size = i.size; epoch = i.epoch; closed = i.closed; chain = i.chain; text = i.text.items; promised = i.promised; queued = i.queued - 1; buffers = l } in IsRing next) (sym left) (ring-without_first ring c.self.invariant.0 waits);
+      buffers = c.give_first.ensures.buffers;
+      others = subst (λ (r : RingState). KeepsOthers r.buffers c.args.pool.now c.give_first.new.pool) c.self.view_is c.give_first.ensures.others;
+    }

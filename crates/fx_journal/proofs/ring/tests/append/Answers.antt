@@ -1,0 +1,7 @@
+use Rattle.std.proofs.Common.{ap, refl, arith}
+use Rattle.fx_journal.specs.Ring.{RingState}
+use Rattle.fx_journal.proofs.Ready.{ready-at, ready-step, ready-promised, ready-padded, ready-freed, ready-room}
+use Rattle.fx_journal.proofs.ring.tests.append.Goals as goal
+
+pub returns : goal.returns
+returns g c = ready-step c.args.ring.now c.append.new.self c.args.pool.now c.append.new.pool c.requires c.append.ensures.ring c.append.ensures.buffers c.append.ensures.size c.append.ensures.others.order c.append.ensures.given

@@ -1,0 +1,4 @@
+pub mod Stream
+pub mod Ring
+pub mod Writing
+pub mod Ready

@@ -1,0 +1,18 @@
+//! The journal: a ring of blocks of a disk, the stream of journal blocks that is read from it, and the
+//! queue of those that are not written yet.
+#![tactic(auto)]
+
+pub mod laws;
+mod place;
+mod ring;
+mod ring_buffers;
+mod stream;
+mod walker;
+
+pub use place::{FIRST_BLOCK, block_number};
+pub use ring::{Full, Ring, Wrote};
+pub use stream::{Blocks, Stream, StreamBlock, WalkFault};
+pub use walker::walk;
+
+#[cfg(test)]
+mod walk_tests;

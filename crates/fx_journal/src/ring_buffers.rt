@@ -1,0 +1,171 @@
+//! The buffers of the ring: one block each, in one queue.
+ghost use Rattle.std.specs.Prelude.{OnErr, is_ok, ◌≡◌, ◌≢◌, ℕ, ◌+◌, ◌-◌, ◌*◌, ◌^◌, ◌<◌, ◌≤◌, List, ◌++◌, ◌∷◌, length, take, drop};
+ghost use Rattle.std.specs.VecDeque.{deque_len, deque_capacity};
+ghost use Rattle.fx_sum.specs.Checksum.{fletch};
+ghost use Rattle.fx_base.specs.Causes.{Rose};
+ghost use Rattle.fx_disk.specs.Steps.{Writes, MadeOrNot};
+ghost use Rattle.fx_jblock.specs.Block.{body, Holds};
+ghost use Rattle.fx_pool.specs.Region.{Run, IsOut, IsSound, bytes_of};
+ghost use Rattle.fx_journal.specs.Ring.{KeepsBuffers, KeepsOthers, IsOther, blocks_out};
+
+use fx_disk::{Disk, DiskFailed};
+use fx_jblock::{RECORD_BYTES, pack};
+use fx_pool::{Buf, Pool, laws};
+use std::collections::VecDeque;
+
+/// Takes so many blocks out of the pool.
+pub(crate) fn take_blocks(pool: &mut Pool, buffers: &mut VecDeque<Buf>, count: u32)
+    requires buffers { KeepsBuffers buffers.old.items pool.old }
+    requires room { deque_len buffers.old + count ≤ deque_capacity buffers.old }
+    requires blocks { blocks_out pool.old + count ≤ 2 ^ pool.old.order }
+    ensures buffers { KeepsBuffers buffers.new.items pool.new }
+    ensures kept { take (length buffers.old.items) buffers.new.items ≡ buffers.old.items }
+    ensures len { length buffers.new.items ≡ length buffers.old.items + count }
+    ensures capacity { deque_capacity buffers.old ≤ deque_capacity buffers.new }
+    ensures others { (run : Run) → IsOut pool.old run → IsOut pool.new run }
+    ensures bytes { pool.new.bytes ≡ pool.old.bytes }
+    ensures order { pool.new.order ≡ pool.old.order }
+    ensures counted { blocks_out pool.new ≡ blocks_out pool.old + count }
+{
+    for _ in 0..count {
+        take_block(pool, buffers);
+    }
+}
+
+fn take_block(pool: &mut Pool, buffers: &mut VecDeque<Buf>)
+    requires buffers { KeepsBuffers buffers.old.items pool.old }
+    requires room { deque_len buffers.old < deque_capacity buffers.old }
+    requires blocks { blocks_out pool.old < 2 ^ pool.old.order }
+    ensures buffers { KeepsBuffers buffers.new.items pool.new }
+    ensures kept { take (length buffers.old.items) buffers.new.items ≡ buffers.old.items }
+    ensures len { length buffers.new.items ≡ length buffers.old.items + 1 }
+    ensures capacity { deque_capacity buffers.old ≤ deque_capacity buffers.new }
+    ensures others { (run : Run) → IsOut pool.old run → IsOut pool.new run }
+    ensures bytes { pool.new.bytes ≡ pool.old.bytes }
+    ensures order { pool.new.order ≡ pool.old.order }
+    ensures counted { blocks_out pool.new ≡ blocks_out pool.old + 1 }
+{
+    let Some(buffer) = pool.take(0) else {
+        unreachable!();
+    };
+    match buffers.push_back(buffer) {
+        Ok(()) => {}
+        Err(_refused) => unreachable!(),
+    }
+}
+
+/// Gives the first buffers back.
+pub(crate) fn give_first(pool: &mut Pool, buffers: &mut VecDeque<Buf>, count: u32)
+    requires buffers { KeepsBuffers buffers.old.items pool.old }
+    requires enough { count ≤ length buffers.old.items }
+    ensures buffers { KeepsBuffers buffers.new.items pool.new }
+    ensures left { buffers.new.items ≡ drop count buffers.old.items }
+    ensures capacity { deque_capacity buffers.new ≡ deque_capacity buffers.old }
+    ensures others { KeepsOthers buffers.old.items pool.old pool.new }
+    ensures bytes { pool.new.bytes ≡ pool.old.bytes }
+    ensures counted { blocks_out pool.new + count ≡ blocks_out pool.old }
+{
+    for _ in 0..count {
+        give_front(pool, buffers);
+    }
+}
+
+fn give_front(pool: &mut Pool, buffers: &mut VecDeque<Buf>)
+    requires buffers { KeepsBuffers buffers.old.items pool.old }
+    requires enough { 0 < length buffers.old.items }
+    ensures buffers { KeepsBuffers buffers.new.items pool.new }
+    ensures left { buffers.new.items ≡ drop 1 buffers.old.items }
+    ensures capacity { deque_capacity buffers.new ≡ deque_capacity buffers.old }
+    ensures others { KeepsOthers buffers.old.items pool.old pool.new }
+    ensures bytes { pool.new.bytes ≡ pool.old.bytes }
+    ensures counted { blocks_out pool.new + 1 ≡ blocks_out pool.old }
+{
+    let Some(buffer) = buffers.pop_front() else {
+        unreachable!();
+    };
+    pool.give(buffer);
+}
+
+/// Gives the last buffers back.
+pub(crate) fn give_last(pool: &mut Pool, buffers: &mut VecDeque<Buf>, count: u32)
+    requires buffers { KeepsBuffers buffers.old.items pool.old }
+    requires enough { count ≤ length buffers.old.items }
+    ensures buffers { KeepsBuffers buffers.new.items pool.new }
+    ensures left { buffers.new.items ≡ take (length buffers.old.items - count) buffers.old.items }
+    ensures capacity { deque_capacity buffers.new ≡ deque_capacity buffers.old }
+    ensures others { KeepsOthers buffers.old.items pool.old pool.new }
+    ensures bytes { pool.new.bytes ≡ pool.old.bytes }
+    ensures counted { blocks_out pool.new + count ≡ blocks_out pool.old }
+{
+    for _ in 0..count {
+        give_back(pool, buffers);
+    }
+}
+
+fn give_back(pool: &mut Pool, buffers: &mut VecDeque<Buf>)
+    requires buffers { KeepsBuffers buffers.old.items pool.old }
+    requires enough { 0 < length buffers.old.items }
+    ensures buffers { KeepsBuffers buffers.new.items pool.new }
+    ensures left { buffers.new.items ≡ take (length buffers.old.items - 1) buffers.old.items }
+    ensures capacity { deque_capacity buffers.new ≡ deque_capacity buffers.old }
+    ensures others { KeepsOthers buffers.old.items pool.old pool.new }
+    ensures bytes { pool.new.bytes ≡ pool.old.bytes }
+    ensures counted { blocks_out pool.new + 1 ≡ blocks_out pool.old }
+{
+    let Some(buffer) = buffers.pop_back() else {
+        unreachable!();
+    };
+    pool.give(buffer);
+}
+
+/// Packs a block into a buffer, and answers the chain after it.
+pub(crate) fn pack_into(
+    pool: &mut Pool,
+    buffer: &Buf,
+    sequence: u64,
+    epoch: u64,
+    chain: u64,
+    text: &[u8],
+) -> u64
+    requires sound { IsSound pool.old }
+    requires out { IsOut pool.old buffer.now }
+    requires single { buffer.now.order ≡ 0 }
+    requires filled { 1 ≤ length text.now }
+    requires room { length text.now ≤ RECORD_BYTES }
+    requires begun { 1 ≤ epoch }
+    ensures chain { result ≡ fletch chain (body sequence epoch text.now) }
+    ensures holds { Holds (bytes_of pool.new buffer.now) sequence epoch chain text.now }
+    ensures others { (run : Run) → IsOut pool.old run → run.start ≢ buffer.now.start → bytes_of pool.new run ≡ bytes_of pool.old run }
+    ensures out { pool.new.out ≡ pool.old.out }
+    ensures order { pool.new.order ≡ pool.old.order }
+    ensures sound { IsSound pool.new }
+{
+    laws::written_buffers();
+    let Some(block) = pool.bytes_mut(buffer).as_mut_array::<4096>() else {
+        unreachable!();
+    };
+    pack(sequence, epoch, chain, text, block)
+}
+
+/// Writes a buffer of one block to the disk.
+pub(crate) fn write_buffer<D: Disk>(
+    pool: &Pool,
+    buffer: &Buf,
+    disk: &mut D,
+    at: u32,
+) -> Result<(), DiskFailed>
+    requires out { IsOut pool.now buffer.now }
+    requires single { buffer.now.order ≡ 0 }
+    requires within { at < D.size disk.old }
+    ensures made { MadeOrNot (D.calls disk.old) (D.calls disk.new) (D.last_made disk.new) (is_ok result)
+        (Writes (D.told disk.old) (D.told disk.new) at (bytes_of pool.now buffer.now) (is_ok result)) (D.told disk.new ≡ D.told disk.old) }
+    ensures fault { OnErr result (Rose (D.faults disk.old) (D.faults disk.new)) }
+    ensures size { D.size disk.new ≡ D.size disk.old }
+    ensures reads { D.reads disk.new ≡ D.reads disk.old }
+    ensures faults { D.faults disk.old ≤ D.faults disk.new }
+{
+    let Some(block) = pool.bytes(buffer).as_array::<4096>() else {
+        unreachable!();
+    };
+    disk.write(at, block)
+}
