@@ -1,0 +1,5 @@
+pub mod Walking
+pub mod Trees
+pub mod Order
+pub mod Listed
+pub mod Sampled

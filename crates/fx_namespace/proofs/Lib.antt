@@ -1,0 +1,5 @@
+pub mod Walks
+pub mod Gained
+pub mod Resized
+pub mod Trees
+pub mod Empty

@@ -1,0 +1,58 @@
+-- The tree of items: it is one, and a tree; and what an insertion into it leaves.
+use Rattle.std.proofs.Common.{◌≡◌, ◌≢◌, ◌⊎◌, inl, inr, ℕ, ◌++◌, List, [], ◌∷◌, refl, sym, ap, ◌∙◌, cond}
+use Rattle.std.specs.Prelude.{Some, option_and_then, option_map}
+use Rattle.std.specs.Cmp.{tied_itself}
+use Rattle.std.specs.declared.cmp.Ordering.{Ordering}
+use Rattle.std.specs.declared.cmp.Ordering.TheVariants.{Less, Equal, Greater}
+use Rattle.std.specs.Ordering.{is_eq}
+use Rattle.std.specs.FinMap.{get, insert, empty, get-insert, same_map}
+use Rattle.std.proofs.lemmas.Option.{option_and_then_some}
+use Rattle.fx_plain.specs.Node.{Node, Dir, empty_dir}
+use Rattle.fx_plain.specs.Tree.{IsTree, Tree, path_cmp}
+use Rattle.fx_plain.proofs.Paths.{paths_total, paths_exact}
+use Rattle.fx_item.specs.Look.{ItemMap}
+use Rattle.fx_namespace.specs.Nodes.{NodeId, root_node, child, node_at, object_kind, Stands}
+use Rattle.fx_namespace.specs.Trees.{Holdings, IsTreeOf, node_of, shown}
+use Rattle.fx_namespace.proofs.Walks.{child_value, last_step, same_node, root_is, root_not}
+
+-- what an insertion leaves at a path q: the new node where q is the path, and else what lay there
+abbrev pub Left : Tree → List (List ℕ) → Node → List (List ℕ) → Type 0
+Left tree p node q = ((q ≡ p) × (get (insert tree p node) q ≡ Some node)) ⊎ ((q ≢ p) × (get (insert tree p node) q ≡ get tree q))
+
+less_equal : let a : Ordering = Less in a ≡ Equal → ⊥
+less_equal e = cc
+
+greater_equal : let a : Ordering = Greater in a ≡ Equal → ⊥
+greater_equal e = cc
+
+pub left : (tree : Tree) (p : List (List ℕ)) (node : Node) (q : List (List ℕ)) → Left tree p node q
+left tree p node q = by_order (path_cmp q p) refl
+  where
+    by_order : (o : Ordering) → path_cmp q p ≡ o → Left tree p node q
+    by_order Equal e = inl (paths_exact q p e, get-insert paths_total tree p node q ∙ ap (λ o. cond (is_eq o) (Some node) (get tree q)) e)
+    by_order Less e = inr (λ s. less_equal (sym e ∙ ap (λ x. path_cmp x p) s ∙ tied_itself paths_total p), get-insert paths_total tree p node q ∙ ap (λ o. cond (is_eq o) (Some node) (get tree q)) e)
+    by_order Greater e = inr (λ s. greater_equal (sym e ∙ ap (λ x. path_cmp x p) s ∙ tied_itself paths_total p), get-insert paths_total tree p node q ∙ ap (λ o. cond (is_eq o) (Some node) (get tree q)) e)
+
+pub one_tree : (m : ItemMap) (h : Holdings) (t u : Tree) → IsTreeOf m h t → IsTreeOf m h u → t ≡ u
+one_tree m h t u a b = same_map paths_total paths_exact t u (λ q. a.at q ∙ sym (b.at q))
+
+-- what is shown at a node that is not the root
+pub shown_inner : (m : ItemMap) (h : Holdings) (y : NodeId) → y ≢ root_node → shown m h y ≡ option_map (node_of h y) (object_kind m y)
+shown_inner m h y ne = ap (λ b. cond b (Some empty_dir) (option_map (node_of h y) (object_kind m y))) (root_not y ne)
+
+-- a parent is shown as a directory
+dir_shown : (m : ItemMap) (h : Holdings) → Stands m → (y x : NodeId) (name : List ℕ) → child m y name ≡ Some x → (attributes : _) × (shown m h y ≡ Some (Dir attributes))
+dir_shown m h s y x name e = by_node (same_node y root_node)
+  where
+    by_node : (y ≡ root_node) ⊎ (y ≢ root_node) → (attributes : _) × (shown m h y ≡ Some (Dir attributes))
+    by_node (inl is) = (empty, ap (λ b. cond b (Some empty_dir) (option_map (node_of h y) (object_kind m y))) (root_is y is))
+    by_node (inr ne) = (h.attributes y, shown_inner m h y ne ∙ ap (option_map (node_of h y)) (s.parents y name _ ne (child_value m y name x e)))
+
+pub is_tree : (m : ItemMap) (h : Holdings) (t : Tree) → Stands m → IsTreeOf m h t → IsTree t
+is_tree m h t s a = record {
+  top = a.at [];
+  above = λ path name there e. option_and_then_some (shown m h) (node_at m (path ++ name ∷ [])) there (sym (a.at (path ++ name ∷ [])) ∙ e) (λ x way seen.
+      let l = last_step m path name x way in
+      let d = dir_shown m h s l.0 x name l.2 in
+      (d.0, a.at path ∙ ap (option_and_then (shown m h)) l.1 ∙ d.1));
+}
