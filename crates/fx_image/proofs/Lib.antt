@@ -1,0 +1,4 @@
+pub mod Going
+pub mod Choosing
+pub mod Keeping
+pub mod Told

@@ -1,0 +1,90 @@
+-- The same of what a disk tells, or does not tell.
+use Rattle.std.proofs.Common.{◌≡◌, ℕ, ◌+◌, ◌≤◌, List, [], Bool, true, false, length, refl, sym, subst, ◌∙◌, ap, arith, ⊎_elim}
+use Rattle.std.specs.Prelude.{Option, Some, None, IfSome, Result, Ok, Err, OnOk, is_ok}
+use Rattle.fx_disk.specs.Record.{DiskRecord}
+use Rattle.fx_disk.specs.Steps.{IsRecordOf, Writes, Flushes, MadeOrNot, IsMade, with_write, with_flush}
+use Rattle.fx_super.specs.Super.{Fields, IsSuper}
+use Rattle.fx_super.specs.Chosen.{IsChosen, block_number, other}
+use Rattle.fx_super.specs.declared.choice.Which.{Which}
+use Rattle.fx_image.specs.Chosen.{next_generation, ChoosesSince, ChoosesNext}
+use Rattle.fx_image.proofs.Keeping.{since-begun, since-flush, next-flush, since-raise, next-raised}
+
+-- of a disk with these counts, what it tells
+abbrev pub IsTold : ℕ → ℕ → Option DiskRecord → Type 0
+IsTold size calls told = IfSome told (IsRecordOf size calls)
+
+-- nothing was written yet
+pub told-begun : (size calls : ℕ) (told : Option DiskRecord) → IsTold size calls told → IfSome told (ChoosesSince calls)
+told-begun size calls None h = tt
+told-begun size calls (Some r) h =
+    subst (λ (n : ℕ). ChoosesSince n r) h.counted (since-begun size r (subst (λ (n : ℕ). IsRecordOf size n r) (sym h.counted) h))
+
+flushes-since : (before after : Option DiskRecord) (from : ℕ) (ok : Bool) → Flushes before after ok → IfSome before (ChoosesSince from) → IfSome after (ChoosesSince from)
+flushes-since None after from ok e h = subst (λ (o : Option DiskRecord). IfSome o (ChoosesSince from)) (sym e) tt
+flushes-since (Some r) after from ok e h = subst (λ (o : Option DiskRecord). IfSome o (ChoosesSince from)) (sym e) (since-flush from r ok h)
+
+-- a flush, made or not
+pub told-flush : (before after : Option DiskRecord) (from m n : ℕ) (made ok : Bool) → MadeOrNot m n made ok (Flushes before after ok) (after ≡ before) → IfSome before (ChoosesSince from) → IfSome after (ChoosesSince from)
+told-flush before after from m n made ok d h = ⊎_elim
+    (λ y. flushes-since before after from ok y.done h)
+    (λ no. subst (λ (o : Option DiskRecord). IfSome o (ChoosesSince from)) (sym no.same) h) d
+
+module _ (size calls : ℕ) (before : Option DiskRecord) (which : Which) (f : Fields) (bytes : List ℕ) (next : IsSuper bytes (next_generation f)) where
+  writes-since : (after : Option DiskRecord) (ok : Bool) → IsTold size calls before → IfSome before (λ r. IsChosen r.contents which f)
+      → Writes before after (block_number (other which)) bytes ok → IfSome after (ChoosesSince calls)
+  writes-since after ok h is w = writes before h is w
+    where
+      writes : (told : Option DiskRecord) → IsTold size calls told → IfSome told (λ r. IsChosen r.contents which f)
+          → Writes told after (block_number (other which)) bytes ok → IfSome after (ChoosesSince calls)
+      writes None h is e = subst (λ (o : Option DiskRecord). IfSome o (ChoosesSince calls)) (sym e) tt
+      writes (Some r) h is (held, _, e) = subst (λ (o : Option DiskRecord). IfSome o (ChoosesSince calls)) (sym e)
+          (subst (λ (n : ℕ). ChoosesSince n (with_write r (block_number (other which)) bytes ok held)) h.counted
+          (since-raise size r (subst (λ (n : ℕ). IsRecordOf size n r) (sym h.counted) h) which f is bytes next ok held))
+
+  -- the write of the next superblock, made or not
+  pub told-raise : (after : Option DiskRecord) (n : ℕ) (made ok : Bool) → IsTold size calls before → IfSome before (λ r. IsChosen r.contents which f)
+      → MadeOrNot calls n made ok (Writes before after (block_number (other which)) bytes ok) (after ≡ before) → IfSome after (ChoosesSince calls)
+  told-raise after n made ok h is d = ⊎_elim
+      (λ y. writes-since after ok h is y.done)
+      (λ no. subst (λ (o : Option DiskRecord). IfSome o (ChoosesSince calls)) (sym no.same) (told-begun size calls before h)) d
+
+  -- a good write of it and a good flush
+  pub told-raised : (mid after : Option DiskRecord) → IsTold size calls before → IfSome before (λ r. IsChosen r.contents which f)
+      → Writes before mid (block_number (other which)) bytes true → Flushes mid after true → IfSome after (ChoosesNext calls)
+  told-raised mid after h is w e = raised before h is w
+    where
+      raised : (told : Option DiskRecord) → IsTold size calls told → IfSome told (λ r. IsChosen r.contents which f) → Writes told mid (block_number (other which)) bytes true → IfSome after (ChoosesNext calls)
+      raised None h is w =
+          let e' : Flushes None after true = subst (λ (o : Option DiskRecord). Flushes o after true) w e in
+          subst (λ (o : Option DiskRecord). IfSome o (ChoosesNext calls)) (sym e') tt
+      raised (Some r) h is (held, _, w) =
+          let e' : Flushes (Some (with_write r (block_number (other which)) bytes true held)) after true = subst (λ (o : Option DiskRecord). Flushes o after true) w e in
+          subst (λ (o : Option DiskRecord). IfSome o (ChoosesNext calls)) (sym e')
+          (subst (λ (n : ℕ). ChoosesNext n (with_flush (with_write r (block_number (other which)) bytes true held) true)) h.counted
+          (next-raised size r (subst (λ (n : ℕ). IsRecordOf size n r) (sym h.counted) h) which f is bytes next held))
+
+-- a good call was made
+pub good-made : (m n : ℕ) (made : Bool) (does keeps : Type 0) → MadeOrNot m n made true does keeps → does
+good-made m n made does keeps d = ⊎_elim (λ y. y.done) (λ no. absurd (cc no.failed)) d
+
+pub good-counted : (m n : ℕ) (made : Bool) (does keeps : Type 0) → MadeOrNot m n made true does keeps → n ≡ m + 1
+good-counted m n made does keeps d = ⊎_elim (λ y. y.counted) (λ no. absurd (cc no.failed)) d
+
+-- a call that answered Ok
+pub on_ok-from : {T E : Type 0} (r : Result T E) (P : Type 0) → (is_ok r ≡ true → P) → OnOk r P
+on_ok-from (Ok x) P f = f refl
+on_ok-from (Err e) P f = tt
+
+pub good-flush : (before after : Option DiskRecord) (m n : ℕ) (made ok : Bool) → ok ≡ true → MadeOrNot m n made ok (Flushes before after ok) (after ≡ before) → Flushes before after true
+good-flush before after m n made ok e d = good-made m n made (Flushes before after true) (after ≡ before) (subst (λ (t : Bool). MadeOrNot m n made t (Flushes before after t) (after ≡ before)) e d)
+
+-- further flushes of a mounted disk
+flushes-next : (before after : Option DiskRecord) (from : ℕ) (ok : Bool) → Flushes before after ok → IfSome before (λ r. from ≤ length r.calls) → IfSome before (ChoosesNext from) → IfSome after (ChoosesNext from)
+flushes-next None after from ok e le h = subst (λ (o : Option DiskRecord). IfSome o (ChoosesNext from)) (sym e) tt
+flushes-next (Some r) after from ok e le h = subst (λ (o : Option DiskRecord). IfSome o (ChoosesNext from)) (sym e) (next-flush from r ok le h)
+
+pub told-next : (before after : Option DiskRecord) (from m n : ℕ) (made ok : Bool) → MadeOrNot m n made ok (Flushes before after ok) (after ≡ before)
+    → IfSome before (λ r. from ≤ length r.calls) → IfSome before (ChoosesNext from) → IfSome after (ChoosesNext from)
+told-next before after from m n made ok d le h = ⊎_elim
+    (λ y. flushes-next before after from ok y.done le h)
+    (λ no. subst (λ (o : Option DiskRecord). IfSome o (ChoosesNext from)) (sym no.same) h) d

@@ -1,0 +1,4 @@
+pub mod States
+pub mod Keeps
+pub mod Laying
+pub mod Finding

@@ -1,0 +1,49 @@
+use Rattle.std.proofs.Common.{◌≡◌, ℕ, ◌∙◌, ap, subst, List, Bool, true}
+use Rattle.std.specs.Prelude.{Option, IfSome, is_ok}
+use Rattle.fx_disk.specs.Record.{DiskRecord}
+use Rattle.fx_disk.specs.Steps.{Writes, Flushes, MadeOrNot}
+use Rattle.fx_super.specs.Super.{Fields, IsSuper}
+use Rattle.fx_super.specs.Chosen.{IsChosen, block_number, other}
+use Rattle.fx_image.specs.Chosen.{ChoosesNext, ChoosesSince, next_generation}
+use Rattle.fx_image.proofs.Told.{told-raise, told-raised, told-flush, good-made, good-flush, on_ok-from}
+use Rattle.fx_mount.proofs.mounting.put_super.Goals as goal
+
+pub returns-in_err-write-clause-since : goal.returns-in_err-write-clause-since
+returns-in_err-write-clause-since g c f next is =
+    let t0 : Option DiskRecord = g.D.Disk.told c.args.disk.now in
+    let t1 : Option DiskRecord = g.D.Disk.told c.write.new.self in
+    let m : ℕ = g.D.Disk.calls c.args.disk.now in
+    let n : ℕ = g.D.Disk.calls c.write.new.self in
+    let at : c.block.result ≡ block_number (other c.args.chosen) = c.block.ensures ∙ ap block_number c.other.ensures in
+    told-raise (g.D.Disk.size c.args.disk.now) m t0 c.args.chosen f c.args.block.now next t1 n (g.D.Disk.last_made c.write.new.self) (is_ok c.write.result)
+    (g.met.D.Disk.told_ok c.args.disk.now) is
+    (subst (λ (k : ℕ). MadeOrNot m n (g.D.Disk.last_made c.write.new.self) (is_ok c.write.result) (Writes t0 t1 k c.args.block.now (is_ok c.write.result)) (t1 ≡ t0)) at c.write.ensures.told)
+
+pub returns-clause-since : goal.returns-clause-since
+returns-clause-since g c f next is =
+    let t0 : Option DiskRecord = g.D.Disk.told c.args.disk.now in
+    let t1 : Option DiskRecord = g.D.Disk.told c.write.new.self in
+    let t2 : Option DiskRecord = g.D.Disk.told c.flush.new.self in
+    let m : ℕ = g.D.Disk.calls c.args.disk.now in
+    let n : ℕ = g.D.Disk.calls c.write.new.self in
+    let at : c.block.result ≡ block_number (other c.args.chosen) = c.block.ensures ∙ ap block_number c.other.ensures in
+    let written : IfSome t1 (ChoosesSince m) =
+    told-raise (g.D.Disk.size c.args.disk.now) m t0 c.args.chosen f c.args.block.now next t1 n (g.D.Disk.last_made c.write.new.self) (is_ok c.write.result)
+    (g.met.D.Disk.told_ok c.args.disk.now) is
+    (subst (λ (k : ℕ). MadeOrNot m n (g.D.Disk.last_made c.write.new.self) (is_ok c.write.result) (Writes t0 t1 k c.args.block.now (is_ok c.write.result)) (t1 ≡ t0)) at c.write.ensures.told) in
+    told-flush t1 t2 m n (g.D.Disk.calls c.flush.new.self) (g.D.Disk.last_made c.flush.new.self) (is_ok c.flush.result) c.flush.ensures.told written
+
+pub returns-clause-next : goal.returns-clause-next
+returns-clause-next g c =
+    let t0 : Option DiskRecord = g.D.Disk.told c.args.disk.now in
+    let t1 : Option DiskRecord = g.D.Disk.told c.write.new.self in
+    let t2 : Option DiskRecord = g.D.Disk.told c.flush.new.self in
+    let m : ℕ = g.D.Disk.calls c.args.disk.now in
+    let n : ℕ = g.D.Disk.calls c.write.new.self in
+    let at : c.block.result ≡ block_number (other c.args.chosen) = c.block.ensures ∙ ap block_number c.other.ensures in
+    let w : Writes t0 t1 (block_number (other c.args.chosen)) c.args.block.now true =
+    subst (λ (k : ℕ). Writes t0 t1 k c.args.block.now true) at
+    (good-made m n (g.D.Disk.last_made c.write.new.self) (Writes t0 t1 c.block.result c.args.block.now true) (t1 ≡ t0) c.in_ok-write.ensures.told) in
+    on_ok-from c.flush.result ((f : Fields) → IsSuper c.args.block.now (next_generation f) → IfSome t0 (λ r. IsChosen r.contents c.args.chosen f) → IfSome t2 (ChoosesNext m))
+    (λ e f next is. told-raised (g.D.Disk.size c.args.disk.now) m t0 c.args.chosen f c.args.block.now next t1 t2 (g.met.D.Disk.told_ok c.args.disk.now) is w
+    (good-flush t1 t2 n (g.D.Disk.calls c.flush.new.self) (g.D.Disk.last_made c.flush.new.self) (is_ok c.flush.result) e c.flush.ensures.told))

@@ -1,0 +1,34 @@
+-- What a format leaves.
+use Rattle.std.specs.Prelude.{◌≡◌, ℕ, ◌+◌, ◌*◌, ◌<◌, ◌≤◌, List, [], length, replicate, slice_index_or}
+use Rattle.fx_base.specs.Causes.{Rose}
+use Rattle.fx_disk.specs.Record.{DiskRecord}
+use Rattle.fx_disk.specs.Settled.{IsSettled}
+use Rattle.fx_super.specs.Super.{Fields, IsSuper, first_fields}
+use Rattle.fx_mount.specs.declared.fault.MkfsFault.{MkfsFault}
+use Rattle.fx_mount.specs.declared.fault.MkfsFault.TheVariants.{Size, Device}
+
+-- a block of zeros
+unfoldable pub zero_bytes : List ℕ
+zero_bytes = replicate 4096 0
+
+-- So many blocks have room for a ring of this length, and are not too many.
+pub record HasRoomFor (ring blocks : ℕ) : Type 0 where
+  pub least : 4 * ring + 64 ≤ blocks
+  pub most : blocks ≤ 65536
+
+-- This block stands in block 0, zeros in block 1 and in the ring, and the rest is as it was. If nothing
+-- was loose before, nothing is.
+pub record IsLaidOut (ring : ℕ) (first : List ℕ) (before after : DiskRecord) : Type 0 where
+  pub first_is : slice_index_or after.contents 0 [] ≡ first
+  pub zeros : (b : ℕ) → 1 ≤ b → b < ring + 2 → slice_index_or after.contents b [] ≡ zero_bytes
+  pub rest : (b : ℕ) → ring + 2 ≤ b → slice_index_or after.contents b [] ≡ slice_index_or before.contents b []
+  pub settled : IsSettled before → IsSettled after
+
+-- The disk of so many blocks was formatted with a ring of this length, and has the first superblock.
+abbrev pub IsFormatted : ℕ → ℕ → DiskRecord → DiskRecord → Type 0
+IsFormatted size ring before after = (first : List ℕ) × IsSuper first (first_fields size ring) × IsLaidOut ring first before after
+
+-- Why a disk was not formatted: its size, by which it was not touched, or it failed.
+abbrev pub IsMkfsCause : ℕ → ℕ → ℕ → ℕ → MkfsFault → Type 0
+IsMkfsCause ring size before now (Size blocks) = (blocks ≡ size) × (HasRoomFor ring size → ⊥)
+IsMkfsCause ring size before now Device = HasRoomFor ring size × Rose before now

@@ -1,0 +1,5 @@
+pub mod Formatted
+pub mod Found
+pub mod Laying
+pub mod Mounted
+pub mod Line

@@ -1,0 +1,163 @@
+//! Finding the superblock of a disk.
+ghost use Rattle.std.specs.Prelude.{◌≡◌, ℕ, ◌<◌, ◌≤◌, ◌↔◌, ◌∷◌, [], List, Ok, Err, IfOk, IfErr, OnOk, OnErr, MatchOption, IsTrue, slice_index_or};
+ghost use Rattle.std.specs.Option.{IfSome};
+ghost use Rattle.fx_base.specs.Causes.{Rose};
+ghost use Rattle.fx_super.specs.Super.{Decoded, KeepsRules, fields_of};
+ghost use Rattle.fx_super.specs.Chosen.{IsChosen};
+ghost use Rattle.fx_image.specs.Chosen.{Chooses};
+ghost use Rattle.fx_mount.specs.Found.{AreSlots, HasRoomAbove, IsMountable, IsMountCause, IsRefused, first_slot, layers_of, second_slot};
+
+use crate::fault::MountFault;
+use crate::format::zero_block;
+use fx_disk::{Disk, DiskFailed};
+use fx_super::{Super, SuperFault, Which, choose, decode_super};
+
+/// A superblock that a session can go on from, and where it stands.
+#[derive(Clone, Copy, Debug)]
+pub(crate) struct Found {
+    pub(crate) sup: Super,
+    pub(crate) chosen: Which,
+}
+
+/// Whether the numbers leave room for a session.
+fn has_room_above(sup: &Super) -> bool
+    requires { KeepsRules (fields_of sup.now) }
+    ensures { IsTrue result ↔ HasRoomAbove (fields_of sup.now) }
+{
+    const COUNTS: u64 = 1 << 40;
+    const IDS: u64 = 1 << 23;
+    sup.generation + COUNTS <= 1 << 63
+        && sup.sequence + COUNTS <= 1 << 62
+        && sup.base + COUNTS <= 1 << 62
+        && sup.next_id + IDS <= 1 << 62
+        && u64::from(sup.next_store) + IDS <= 1 << 31
+}
+
+/// The first layer that the superblock names.
+fn first_layer(sup: &Super) -> Option<u32>
+    ensures { MatchOption result (layers_of (fields_of sup.now) ≡ []) (λ at. (rest : List ℕ) × (layers_of (fields_of sup.now) ≡ at ∷ rest)) }
+{
+    let objects = sup.objects.as_slice();
+    let allocs = sup.allocs.as_slice();
+    if 0 < objects.len() {
+        return Some(objects[0]);
+    }
+    if 0 < allocs.len() {
+        return Some(allocs[0]);
+    }
+    None
+}
+
+/// Why there is no superblock in these two places.
+fn missing(first: SuperFault, second: SuperFault) -> MountFault
+    ensures { (image : List (List ℕ)) (size : ℕ) → 2 ≤ size → Decoded (first_slot image) (Err first) → Decoded (second_slot image) (Err second) → IsRefused size image result }
+{
+    match (first, second) {
+        (SuperFault::Version(version), _) => MountFault::Version(version),
+        (SuperFault::Bad, SuperFault::Version(version)) => MountFault::Version(version),
+        (SuperFault::Bad, SuperFault::Bad) => MountFault::NoSuper,
+    }
+}
+
+/// The chosen one of two superblocks.
+fn newer(first: Super, second: Super) -> Found
+    ensures rules { KeepsRules (fields_of first) → KeepsRules (fields_of second) → KeepsRules (fields_of result.sup) }
+    ensures chosen { (image : List (List ℕ)) → AreSlots image (Ok first) (Ok second) → IsChosen image result.chosen (fields_of result.sup) }
+{
+    match choose(Some(first.generation), Some(second.generation)) {
+        Some(Which::A) => Found {
+            sup: first,
+            chosen: Which::A,
+        },
+        Some(Which::B) => Found {
+            sup: second,
+            chosen: Which::B,
+        },
+        None => unreachable!(),
+    }
+}
+
+/// The chosen superblock of what was read in the two places.
+fn chosen_of(
+    first: Result<Super, SuperFault>,
+    second: Result<Super, SuperFault>,
+) -> Result<Found, MountFault>
+    ensures rules { (image : List (List ℕ)) → AreSlots image first second → IfOk result (λ it. KeepsRules (fields_of it.sup)) }
+    ensures chosen { (image : List (List ℕ)) → AreSlots image first second → IfOk result (λ it. IsChosen image it.chosen (fields_of it.sup)) }
+    ensures refused { (image : List (List ℕ)) (size : ℕ) → 2 ≤ size → AreSlots image first second → IfErr result (IsRefused size image) }
+{
+    match (first, second) {
+        (Ok(first), Ok(second)) => Ok(newer(first, second)),
+        (Ok(sup), Err(_)) => Ok(Found {
+            sup,
+            chosen: Which::A,
+        }),
+        (Err(_), Ok(sup)) => Ok(Found {
+            sup,
+            chosen: Which::B,
+        }),
+        (Err(first), Err(second)) => Err(missing(first, second)),
+    }
+}
+
+/// Whether a session can go on from the superblock on a disk of so many blocks.
+fn check(sup: &Super, blocks: u32) -> Result<(), MountFault>
+    requires { KeepsRules (fields_of sup.now) }
+    ensures size { OnOk result (sup.now.blocks ≡ blocks) }
+    ensures layers { OnOk result (layers_of (fields_of sup.now) ≡ []) }
+    ensures room { OnOk result (HasRoomAbove (fields_of sup.now)) }
+    ensures refused { IfErr result (λ fault. (image : List (List ℕ)) → 2 ≤ blocks → Chooses (fields_of sup.now) image → IsRefused blocks image fault) }
+{
+    if sup.blocks != blocks {
+        return Err(MountFault::DiskSize(blocks));
+    }
+    if let Some(layer) = first_layer(sup) {
+        return Err(MountFault::BadLayer(layer));
+    }
+    if !has_room_above(sup) {
+        return Err(MountFault::Cramped(0));
+    }
+    Ok(())
+}
+
+/// Reads one of the two places of superblocks.
+fn read_slot<D: Disk>(disk: &mut D, at: u32) -> Result<Result<Super, SuperFault>, DiskFailed>
+    requires { at < D.size disk.old }
+    ensures decoded { IfOk result (λ slot. (block : List ℕ) × Decoded block slot × IfSome (D.told disk.old) (λ r. block ≡ slice_index_or r.contents at [])) }
+    ensures told { D.told disk.new ≡ D.told disk.old }
+    ensures calls { D.calls disk.new ≡ D.calls disk.old }
+    ensures size { D.size disk.new ≡ D.size disk.old }
+    ensures faults { D.faults disk.old ≤ D.faults disk.new }
+    ensures failed { OnErr result (Rose (D.faults disk.old) (D.faults disk.new)) }
+{
+    let mut block = zero_block();
+    disk.read(at, &mut block)?;
+    Ok(decode_super(&block))
+}
+
+/// The chosen superblock of the disk, where a session can go on from it. Makes two reads.
+pub(crate) fn find<D: Disk>(disk: &mut D) -> Result<Found, MountFault>
+    ensures found { IfOk result (λ it. IfSome (D.told disk.old) (λ r. IsMountable (D.size disk.old) r.contents (fields_of it.sup) × IsChosen r.contents it.chosen (fields_of it.sup))) }
+    ensures rules { IfOk result (λ it. KeepsRules (fields_of it.sup) × HasRoomAbove (fields_of it.sup)) }
+    ensures slots { OnOk result (2 ≤ D.size disk.old) }
+    ensures cause { IfErr result (IsMountCause (D.size disk.old) (D.told disk.old) (D.faults disk.old) (D.faults disk.new)) }
+    ensures told { D.told disk.new ≡ D.told disk.old }
+    ensures calls { D.calls disk.new ≡ D.calls disk.old }
+    ensures size { D.size disk.new ≡ D.size disk.old }
+    ensures faults { D.faults disk.old ≤ D.faults disk.new }
+{
+    let blocks = disk.blocks();
+    if blocks < 2 {
+        return Err(MountFault::NoSuper);
+    }
+    let first = read_slot(disk, 0)?;
+    let second = read_slot(disk, 1)?;
+    let found = match chosen_of(first, second) {
+        Ok(found) => found,
+        Err(fault) => return Err(fault),
+    };
+    match check(&found.sup, blocks) {
+        Ok(()) => Ok(found),
+        Err(fault) => Err(fault),
+    }
+}
