@@ -54,14 +54,67 @@ def no_command():
 
 
 def images_that_are_none():
-    images = ["mem:1087", "mem:02048", "mem:65537", "mem:", "disk.img", b"\xff"]
+    images = ["mem:1087", "mem:02048", "mem:65537", "mem:", "/nowhere/disk.img", b"\xff"]
     got = [run(words)[::2] for words in [[], *([image, "shell"] for image in images)]]
     return got, [(12, b"fxfs: image\n")] * 7
 
 
+def on_file(size, *commands):
+    """What each command, with its script, does on one file of zeros in a folder of its own."""
+    with tempfile.TemporaryDirectory() as folder:
+        image = os.path.join(folder, "disk.img")
+        with open(image, "wb") as disk:
+            disk.truncate(size)
+        return [run([image, *words.split()], script) for words, script in commands]
+
+
+def formatted_file():
+    got = on_file(8 << 20, ("mkfs", b""), ("shell", b"mkdir /v\n"), ("shell", b"mkdir /v\n"))
+    return got, [(0, b"mkfs 2048 256\n", b""), (0, b"1 1 ok 1\n", b""), (0, b"1 1 ok 1\n", b"")]
+
+
+def ring_of_a_file():
+    got = on_file(4160 * 4096 + 4095, ("mkfs --journal=1024", b""), ("mkfs --journal 1025", b""))
+    return got, [(0, b"mkfs 4160 1024\n", b""), (2, b"stop 2 badwords\n", b"")]
+
+
+def file_that_is_too_small():
+    return on_file(1087 * 4096, ("mkfs", b"")), [(11, b"stop 11 size 1087\n", b"")]
+
+
+def blank_file():
+    return on_file(8 << 20, ("shell", b"mkdir /v\n")), [(3, b"stop 3 nosuper\n", b"")]
+
+
+def superblocks_of_a_file():
+    """The bytes of both superblocks after a format and a shell: a magic, version 1, and the two generations."""
+    with tempfile.TemporaryDirectory() as folder:
+        image = os.path.join(folder, "disk.img")
+        with open(image, "wb") as disk:
+            disk.truncate(1088 * 4096)
+        run([image, "mkfs"])
+        run([image, "shell"])
+        with open(image, "rb") as disk:
+            blocks = [disk.read(4096) for _ in range(2)]
+    got = [(block[:8], block[8], block[12:16], block[16]) for block in blocks]
+    return got, [(b"fxfs-own", 1, b"\x40\x04\0\0", 1), (b"fxfs-own", 1, b"\x40\x04\0\0", 2)]
+
+
+def file_that_cannot_be_written():
+    if os.geteuid() == 0:
+        # Root may write to any file, so the refusal cannot be seen here.
+        return None, None
+    with tempfile.TemporaryDirectory() as folder:
+        image = os.path.join(folder, "disk.img")
+        with open(image, "wb") as disk:
+            disk.truncate(8 << 20)
+        os.chmod(image, 0o400)
+        return run([image, "shell"])[::2], (12, b"fxfs: image\n")
+
+
 def standard_error_that_fails():
     with open("/dev/full", "wb") as full:
-        return subprocess.run([PROGRAM, "disk.img", "shell"], stderr=full, timeout=120, check=False).returncode, 12
+        return subprocess.run([PROGRAM, "/nowhere/disk.img", "shell"], stderr=full, timeout=120, check=False).returncode, 12
 
 
 def smallest_and_greatest_image():
@@ -92,7 +145,8 @@ def input_of_the_greatest_length_and_one_more():
 
 CHECKS = [
     example, empty_script, last_line_without_a_line_feed, wrong_line_runs_nothing, words_that_are_no_command,
-    no_command, images_that_are_none, standard_error_that_fails, smallest_and_greatest_image, standard_input_that_fails,
+    no_command, images_that_are_none, formatted_file, ring_of_a_file, file_that_is_too_small, blank_file,
+    superblocks_of_a_file, file_that_cannot_be_written, standard_error_that_fails, smallest_and_greatest_image, standard_input_that_fails,
     standard_output_that_fails, input_of_the_greatest_length_and_one_more,
 ]
 

@@ -1,3 +1,4 @@
 pub mod Told
-pub mod States
 pub mod Clients
+pub mod Words
+pub mod Ends

@@ -1,5 +1,8 @@
 pub mod Command
 pub mod Image
 pub mod Stop
-pub mod Session
+pub mod Outside
+pub mod Lines
+pub mod Shell
+pub mod Mkfs
 pub mod Top

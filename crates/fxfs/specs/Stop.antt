@@ -3,17 +3,36 @@ use Rattle.std.specs.Prelude.{ℕ, List, [], ◌++◌, codes}
 use Rattle.std.specs.Fmt.{decimal}
 use Rattle.fx_script.specs.Fault.{fault_word}
 use Rattle.fx_script.specs.declared.fault.LineFault.{LineFault}
+use Rattle.fx_mount.specs.declared.fault.MountFault.{MountFault}
+use Rattle.fx_mount.specs.declared.fault.MountFault.TheVariants as mounts
 use Rattle.fxfs.specs.declared.ended.Stop.{Stop}
-use Rattle.fxfs.specs.declared.ended.Stop.TheVariants.{Done, BadWords, Read, Write, OutOfMemory, BadLine, TooMuchInput}
+use Rattle.fxfs.specs.declared.ended.Stop.TheVariants.{Done, BadWords, NotMounted, Device, Read, Write, OutOfMemory, BadLine, TooMuchInput, DiskTooSmall}
 
 abbrev pub status_of : Stop → ℕ
 status_of Done = 0
 status_of BadWords = 2
+status_of (NotMounted fault) = 3
+status_of Device = 4
 status_of Read = 5
 status_of Write = 6
 status_of OutOfMemory = 7
 status_of (BadLine number fault) = 8
 status_of TooMuchInput = 10
+status_of (DiskTooSmall blocks) = 11
+
+-- a line of words that end in a number
+abbrev pub numbered_line : List ℕ → ℕ → List ℕ
+numbered_line words number = words ++ decimal number ++ codes "\n"
+
+-- the line that tells why a disk was not mounted; none for what is told as another cause
+abbrev pub mount_line : MountFault → List ℕ
+mount_line mounts.NoSuper = codes "stop 3 nosuper\n"
+mount_line (mounts.Version version) = numbered_line (codes "stop 3 version ") version
+mount_line (mounts.DiskSize blocks) = numbered_line (codes "stop 3 disksize ") blocks
+mount_line (mounts.BadLayer block) = numbered_line (codes "stop 3 badlayer ") block
+mount_line (mounts.Cramped free) = numbered_line (codes "stop 3 cramped ") free
+mount_line mounts.Device = []
+mount_line mounts.OutOfMemory = []
 
 -- the line that tells the first wrong line of a script
 abbrev pub bad_line : ℕ → LineFault → List ℕ
@@ -23,8 +42,15 @@ bad_line number fault = codes "stop 8 badline " ++ decimal number ++ codes " " +
 abbrev pub stop_line : Stop → List ℕ
 stop_line Done = []
 stop_line BadWords = codes "stop 2 badwords\n"
+stop_line (NotMounted fault) = mount_line fault
+stop_line Device = codes "stop 4 device\n"
 stop_line Read = codes "stop 5 read\n"
 stop_line Write = []
 stop_line OutOfMemory = codes "stop 7 memory\n"
 stop_line (BadLine number fault) = bad_line number fault
 stop_line TooMuchInput = codes "stop 10 input\n"
+stop_line (DiskTooSmall blocks) = numbered_line (codes "stop 11 size ") blocks
+
+-- the line of a disk that was formatted: its blocks and those of its ring
+abbrev pub mkfs_line : ℕ → ℕ → List ℕ
+mkfs_line blocks ring = codes "mkfs " ++ decimal blocks ++ codes " " ++ decimal ring ++ codes "\n"

@@ -1,18 +1,24 @@
-//! How the top call ended.
+//! How a command ended.
 ghost use Rattle.std.specs.Prelude.{◌≡◌, []};
 ghost use Rattle.fxfs.specs.Stop.{status_of};
 
 use fx_history::{History, Outcomes};
+use fx_mount::MountFault;
 use fx_script::LineFault;
 use std::alloc::Global;
 
-/// Why the top call ended.
+/// Why a command ended.
 #[derive(Clone, Copy, Debug, PartialEq, Eq)]
 pub enum Stop {
     /// All is done: status 0.
     Done,
     /// The words are no command: status 2.
     BadWords,
+    /// The disk was not mounted, for what it holds; no line was run: status 3. The fault is never
+    /// `Device` nor `OutOfMemory`, which are causes of their own.
+    NotMounted(MountFault),
+    /// The disk failed: status 4.
+    Device,
     /// The source failed: status 5.
     Read,
     /// The sink failed: status 6.
@@ -23,6 +29,8 @@ pub enum Stop {
     BadLine { number: u32, fault: LineFault },
     /// The source gave more than `MAX_INPUT` bytes; no line was run: status 10.
     TooMuchInput,
+    /// The disk has this number of blocks, which are too few for the ring or too many: status 11.
+    DiskTooSmall(u32),
 }
 
 impl Stop {
@@ -33,6 +41,8 @@ impl Stop {
         match self {
             Stop::Done => 0,
             Stop::BadWords => 2,
+            Stop::NotMounted(_) => 3,
+            Stop::Device => 4,
             Stop::Read => 5,
             Stop::Write => 6,
             Stop::OutOfMemory => 7,
@@ -41,18 +51,21 @@ impl Stop {
                 fault: _,
             } => 8,
             Stop::TooMuchInput => 10,
+            Stop::DiskTooSmall(_) => 11,
         }
     }
 }
 
-/// How the top call ended, and what its lines did.
+/// How a command ended, and what its lines did.
 #[derive(Debug, Drop)]
-pub struct Ended {
+pub struct Ended<D> {
     /// The status that the program ends with: 0 where all is done, else the cause's.
     pub status: u8,
     /// The cause of the status.
     pub stop: Stop,
-    /// The number of commits at entry.
+    /// The disk.
+    pub disk: D,
+    /// The number of commits at the mount; 0 where no line was run.
     pub base: u64,
     /// What was committed since.
     pub history: History,
@@ -60,34 +73,23 @@ pub struct Ended {
     pub outcomes: Outcomes,
 }
 
-impl Ended {
-    /// An end after lines were run.
-    pub(crate) fn after(stop: Stop, history: History, outcomes: Outcomes) -> Ended
+impl<D> Ended<D> {
+    /// An end with no line run. It takes no memory.
+    pub(crate) fn idle(alloc: Global, stop: Stop, disk: D) -> Ended<D>
         ensures status { result.status ≡ status_of stop }
         ensures stop { result.stop ≡ stop }
-        ensures base { result.base ≡ 0 }
-        ensures history { result.history ≡ history }
-        ensures outcomes { result.outcomes ≡ outcomes }
-    {
-        Ended {
-            status: stop.status(),
-            stop,
-            base: 0,
-            history,
-            outcomes,
-        }
-    }
-
-    /// An end before any line was run.
-    pub(crate) fn before(alloc: Global, stop: Stop) -> Ended
-        ensures status { result.status ≡ status_of stop }
-        ensures stop { result.stop ≡ stop }
+        ensures disk { result.disk ≡ disk }
         ensures base { result.base ≡ 0 }
         ensures history { result.history ≡ [] }
         ensures outcomes { result.outcomes ≡ [] }
     {
-        let history = History::new(Vec::new(alloc));
-        let outcomes = Outcomes::new(Vec::new(alloc));
-        Ended::after(stop, history, outcomes)
+        Ended {
+            status: stop.status(),
+            stop,
+            disk,
+            base: 0,
+            history: History::new(Vec::new(alloc)),
+            outcomes: Outcomes::new(Vec::new(alloc)),
+        }
     }
 }

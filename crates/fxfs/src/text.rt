@@ -1,17 +1,11 @@
-//! Result lines and the stop line.
-ghost use Rattle.std.specs.Prelude.{◌≡◌, ◌≤◌, ◌++◌, length, IfOk, OnOk, OnErr, codes};
+//! Result lines.
+ghost use Rattle.std.specs.Prelude.{◌≡◌, ◌++◌, length, IfOk, OnOk};
 ghost use Rattle.std.specs.String.{string_bytes};
-ghost use Rattle.fx_base.specs.Causes.{Rose};
-ghost use Rattle.fx_io.specs.Told.{Takes, TakesFront};
 ghost use Rattle.fx_history.specs.Text.{refusal_word, read_text, end_text, result_line, result_text};
-ghost use Rattle.fxfs.specs.Stop.{bad_line, stop_line};
 
-use crate::ended::Stop;
 use fx_history::{EndKind, Outcome};
-use fx_io::{Failed, Sink, write_whole};
 use fx_plain::{Answer, Refusal};
-use fx_script::{LineFault, Task, push_escaped};
-use itoa::Buffer;
+use fx_script::{Task, push_escaped};
 use std::alloc::{AllocError, Global};
 
 /// The word of a refusal.
@@ -82,36 +76,4 @@ pub(crate) fn result_text(
         push_line(&mut text, &tasks[i], &outcomes[i])?;
     }
     Ok(text)
-}
-
-/// Writes the line that tells the first wrong line of a script. Takes no memory.
-fn write_bad_line<K: Sink>(out: &mut K, number: u32, fault: LineFault) -> Result<(), Failed>
-    ensures ok { OnOk result (Takes (K.text out.old) (K.text out.new) (bad_line number fault)) }
-    ensures front { OnErr result (TakesFront (K.text out.old) (K.text out.new) (bad_line number fault)) }
-    ensures failed { OnErr result (Rose (K.fault_count out.old) (K.fault_count out.new)) }
-    ensures grows { K.fault_count out.old ≤ K.fault_count out.new }
-{
-    let mut digits = Buffer::new();
-    write_whole(out, b"stop 8 badline ")?;
-    write_whole(out, digits.format(number).as_bytes())?;
-    write_whole(out, b" ")?;
-    write_whole(out, fault.word().as_bytes())?;
-    write_whole(out, b"\n")
-}
-
-/// Writes the line that tells why the call stopped, if there is one. Takes no memory.
-pub(crate) fn write_stop<K: Sink>(out: &mut K, stop: Stop) -> Result<(), Failed>
-    ensures ok { OnOk result (Takes (K.text out.old) (K.text out.new) (stop_line stop)) }
-    ensures front { OnErr result (TakesFront (K.text out.old) (K.text out.new) (stop_line stop)) }
-    ensures failed { OnErr result (Rose (K.fault_count out.old) (K.fault_count out.new)) }
-    ensures grows { K.fault_count out.old ≤ K.fault_count out.new }
-{
-    match stop {
-        Stop::Done | Stop::Write => Ok(()),
-        Stop::BadWords => write_whole(out, b"stop 2 badwords\n"),
-        Stop::Read => write_whole(out, b"stop 5 read\n"),
-        Stop::OutOfMemory => write_whole(out, b"stop 7 memory\n"),
-        Stop::BadLine { number, fault } => write_bad_line(out, number, fault),
-        Stop::TooMuchInput => write_whole(out, b"stop 10 input\n"),
-    }
 }

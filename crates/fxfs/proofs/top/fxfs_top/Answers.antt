@@ -1,9 +1,20 @@
-use Rattle.std.proofs.Common.{sym, subst}
-use Rattle.std.specs.Prelude.{List, All, ◌<◌}
-use Rattle.fx_script.specs.declared.script.Task.{Task}
-use Rattle.fxfs.proofs.Clients.{script_client}
+use Rattle.std.proofs.Common.{◌≡◌, ◌∙◌, ap, ℕ, List, Global}
+use Rattle.std.specs.Prelude.{map, Some}
+use Rattle.std.specs.String.{string_bytes}
+use Rattle.fxfs.specs.Command.{command_of}
+use Rattle.fxfs.specs.declared.command.Command.{Command}
+use Rattle.fxfs.specs.declared.command.Command.TheVariants.{Mkfs}
+use Rattle.fxfs.proofs.Words.{ring_of_command}
 use Rattle.fxfs.proofs.top.fxfs_top.Goals as goal
 
-pub run-requires : goal.run-requires
-run-requires g c =
-    subst (λ (ts : List Task). All (λ task. 0 < task.client) ts) (sym c.as_slice.ensures) (script_client c.in-Ok.ensures.ok.0 c.in-Ok.tasks c.in-Ok.ensures.ok.2)
+pub mkfs_call-requires-clause-least : goal.mkfs_call-requires-clause-least
+mkfs_call-requires-clause-least g c =
+    let words : List (List ℕ) = map (string_bytes {Z = Global}) c.args.words.now in
+    let told : command_of words ≡ Some (Mkfs c.in-Ok-Mkfs.ring) = c.in-Ok-Mkfs.ensures ∙ ap Some c.in-Ok-Mkfs.field-0-is in
+    (ring_of_command words c.in-Ok-Mkfs.ring told).least
+
+pub mkfs_call-requires-clause-most : goal.mkfs_call-requires-clause-most
+mkfs_call-requires-clause-most g c =
+    let words : List (List ℕ) = map (string_bytes {Z = Global}) c.args.words.now in
+    let told : command_of words ≡ Some (Mkfs c.in-Ok-Mkfs.ring) = c.in-Ok-Mkfs.ensures ∙ ap Some c.in-Ok-Mkfs.field-0-is in
+    (ring_of_command words c.in-Ok-Mkfs.ring told).most

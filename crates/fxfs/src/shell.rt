@@ -1,0 +1,222 @@
+//! The command `shell`.
+ghost use Rattle.std.specs.Prelude.{◌≡◌, ◌≢◌, ◌⊎◌, ℕ, ◌+◌, ◌<◌, ◌≤◌, [], true, false, None, Err, All, length, map, IfOk, IfErr, IsTrue, vec_capacity};
+ghost use Rattle.std.specs.Option.{IfSome};
+ghost use Rattle.fx_base.specs.Causes.{Rose};
+ghost use Rattle.fx_image.specs.Longer.{Extends};
+ghost use Rattle.fx_io.specs.Told.{GivesAtMost};
+ghost use Rattle.fx_plain.specs.Tree.{root};
+ghost use Rattle.fx_history.specs.Transcript.{Session as IsSession};
+ghost use Rattle.fx_mount.specs.Mounted.{KeepsSuper};
+ghost use Rattle.fxfs.specs.Stop.{status_of};
+ghost use Rattle.fxfs.specs.Outside.{DiskSeen, StreamSeen, Outside, End, IsStopped};
+ghost use Rattle.fxfs.specs.Lines.{Spells, IsNoScript, Finishes, Tells, TellsUnsynced};
+ghost use Rattle.fxfs.specs.Shell.{ShellEnds};
+
+use crate::ended::{Ended, Stop};
+use crate::line::write_stop;
+use crate::text::result_text;
+use fx_disk::Disk;
+use fx_history::{Outcome, Outcomes};
+use fx_io::{ReadAllFault, Sink, Source, read_whole, write_whole};
+use fx_mount::{MountFault, Store, StoreEnd, Unmounted, mount};
+use fx_script::{ScriptFault, Task, Tasks, read_script};
+use std::alloc::Global;
+
+/// The most bytes of a script.
+pub const MAX_INPUT: u32 = 16_777_216;
+
+/// Reads the source to its end and its script, mounts the disk, does the lines one after another on a
+/// tree that has the root alone, flushes the disk, and writes a result line for each line to the sink.
+/// Where that fails it writes the line that tells why, behind the result lines where the flush failed.
+/// `Ended` says which it was, the first cause in this order.
+///
+/// The memory for the outcomes is taken before the mount, so lines are never left half run. Costs the
+/// bytes of the script, of the results and of what the lines do, and two reads and three calls of the
+/// disk.
+pub fn shell_call<D: Disk, S: Source, K: Sink>(
+    alloc: Global,
+    disk: D,
+    src: &mut S,
+    out: &mut K,
+) -> Ended<D>
+    ensures status { result.status ≡ status_of result.stop }
+    ensures ends { let before : Outside = record {
+      disk = record { size = D.size disk; told = D.told disk; calls = D.calls disk; faults = D.faults disk };
+      source = record { bytes = S.left src.old; faults = S.fault_count src.old };
+      sink = record { bytes = K.text out.old; faults = K.fault_count out.old };
+    } in
+        let after : Outside = record {
+          disk = record { size = D.size result.disk; told = D.told result.disk; calls = D.calls result.disk; faults = D.faults result.disk };
+          source = record { bytes = S.left src.new; faults = S.fault_count src.new };
+          sink = record { bytes = K.text out.new; faults = K.fault_count out.new };
+        } in
+        let end : End = record { stop = result.stop; base = result.base; history = result.history; outcomes = result.outcomes } in
+        ShellEnds before after end }
+{
+    let tasks = match read_tasks(alloc, src) {
+        Ok(tasks) => tasks,
+        Err(stop) => return stopped(alloc, disk, out, stop),
+    };
+    let Ok(room) = Vec::with_capacity(alloc, tasks.as_slice().len()) else {
+        return stopped(alloc, disk, out, Stop::OutOfMemory);
+    };
+    match mount(alloc, disk) {
+        Ok(store) => finish(alloc, store, tasks.as_slice(), room, out),
+        Err(Unmounted { disk, fault }) => stopped(alloc, disk, out, mount_stop(fault)),
+    }
+}
+
+/// The lines of the script that the source gives.
+fn read_tasks<S: Source>(alloc: Global, src: &mut S) -> Result<Tasks, Stop>
+    ensures ok { IfOk result (Spells (S.left src.old) (S.left src.new)) }
+    ensures err { IfErr result (IsNoScript (record { bytes = S.left src.old; faults = S.fault_count src.old })
+        (record { bytes = S.left src.new; faults = S.fault_count src.new })) }
+    ensures most { GivesAtMost (S.left src.old) (S.left src.new) (MAX_INPUT + 1) }
+    ensures grows { S.fault_count src.old ≤ S.fault_count src.new }
+{
+    let bytes = match read_whole(alloc, src, MAX_INPUT) {
+        Ok(bytes) => bytes,
+        Err(ReadAllFault::Failed) => return Err(Stop::Read),
+        Err(ReadAllFault::TooMuch) => return Err(Stop::TooMuchInput),
+        Err(ReadAllFault::OutOfMemory) => return Err(Stop::OutOfMemory),
+    };
+    match read_script(alloc, bytes.as_slice(), false) {
+        Ok(tasks) => Ok(tasks),
+        Err(ScriptFault::BadLine { number, fault }) => Err(Stop::BadLine { number, fault }),
+        Err(ScriptFault::OutOfMemory) => Err(Stop::OutOfMemory),
+    }
+}
+
+/// The cause where a disk was not mounted.
+fn mount_stop(fault: MountFault) -> Stop
+    ensures device { fault ≡ MountFault.Device → result ≡ Stop.Device }
+    ensures memory { fault ≡ MountFault.OutOfMemory → result ≡ Stop.OutOfMemory }
+    ensures image { fault ≢ MountFault.Device → fault ≢ MountFault.OutOfMemory → result ≡ Stop.NotMounted fault }
+{
+    match fault {
+        MountFault::Device => Stop::Device,
+        MountFault::OutOfMemory => Stop::OutOfMemory,
+        _ => Stop::NotMounted(fault),
+    }
+}
+
+/// Writes the line that tells why the command stopped before any line was run.
+pub(crate) fn stopped<D: Disk, K: Sink>(alloc: Global, disk: D, out: &mut K, stop: Stop) -> Ended<D>
+    ensures status { result.status ≡ status_of stop }
+    ensures stop { result.stop ≡ stop }
+    ensures disk { result.disk ≡ disk }
+    ensures stopped { IsStopped (record { bytes = K.text out.old; faults = K.fault_count out.old })
+        (record { bytes = K.text out.new; faults = K.fault_count out.new })
+        (record { stop = result.stop; base = result.base; history = result.history; outcomes = result.outcomes }) }
+    ensures grows { K.fault_count out.old ≤ K.fault_count out.new }
+{
+    // Where the line cannot be written the status stays what it is.
+    let _told = write_stop(out, stop);
+    Ended::idle(alloc, stop, disk)
+}
+
+/// Does the lines on a disk that was just mounted, flushes it, and writes the results.
+fn finish<D: Disk, K: Sink>(
+    alloc: Global,
+    store: Store<D>,
+    tasks: &[Task],
+    room: Vec<Outcome>,
+    out: &mut K,
+) -> Ended<D>
+    requires fresh { store.history ≡ [] }
+    requires clients { All (λ task. 0 < task.client) tasks.now }
+    requires empty { room.items ≡ [] }
+    requires room { length tasks.now ≤ vec_capacity room }
+    ensures status { result.status ≡ status_of result.stop }
+    ensures session { IsSession root store.base result.history tasks.now result.outcomes }
+    ensures base { result.base ≡ store.base }
+    ensures settled { All (λ entry. entry.settled ≡ 0) result.history }
+    ensures tells { Finishes (D.calls store.disk) (D.calls result.disk) (D.faults store.disk) (D.faults result.disk)
+        (record { bytes = K.text out.old; faults = K.fault_count out.old })
+        (record { bytes = K.text out.new; faults = K.fault_count out.new }) tasks.now result.outcomes result.stop }
+    ensures most { D.calls result.disk ≤ D.calls store.disk + 1 }
+    ensures extends { Extends (D.told store.disk) (D.told result.disk) }
+    ensures size { D.size result.disk ≡ D.size store.disk }
+    ensures faults { D.faults store.disk ≤ D.faults result.disk }
+    ensures images { IfSome (D.told result.disk) (KeepsSuper store.from) }
+    ensures grows { K.fault_count out.old ≤ K.fault_count out.new }
+{
+    let mut store = store;
+    let outcomes = run(alloc, &mut store, tasks, room);
+    let is_synced = store.sync().is_ok();
+    let StoreEnd {
+        disk,
+        base,
+        history,
+    } = store.end();
+    let stop = if is_synced {
+        tell(alloc, tasks, outcomes.as_slice(), out)
+    } else {
+        tell_unsynced(alloc, tasks, outcomes.as_slice(), out)
+    };
+    Ended {
+        status: stop.status(),
+        stop,
+        disk,
+        base,
+        history,
+        outcomes,
+    }
+}
+
+/// Does the lines in their order, in the room for their outcomes.
+fn run<D: Disk>(alloc: Global, store: &mut Store<D>, tasks: &[Task], room: Vec<Outcome>) -> Outcomes
+    requires fresh { store.old.history ≡ [] }
+    requires clients { All (λ task. 0 < task.client) tasks.now }
+    requires empty { room.items ≡ [] }
+    requires room { length tasks.now ≤ vec_capacity room }
+    ensures session { IsSession root store.old.base store.new.history tasks.now result }
+    ensures settled { All (λ entry. entry.settled ≡ 0) store.new.history }
+    ensures base { store.new.base ≡ store.old.base }
+    ensures from { store.new.from ≡ store.old.from }
+    ensures disk { store.new.disk ≡ store.old.disk }
+{
+    let mut items = room;
+    for task in tasks {
+        let outcome = store.exec(alloc, task);
+        items.push_reserved(outcome);
+    }
+    Outcomes::new(items)
+}
+
+/// Writes the result lines, once all lines were run and the disk was flushed, and gives the cause.
+fn tell<K: Sink>(alloc: Global, tasks: &[Task], outcomes: &[Outcome], out: &mut K) -> Stop
+    requires { length outcomes.now ≡ length tasks.now }
+    ensures tells { Tells (record { bytes = K.text out.old; faults = K.fault_count out.old })
+        (record { bytes = K.text out.new; faults = K.fault_count out.new }) tasks.now outcomes.now result }
+    ensures grows { K.fault_count out.old ≤ K.fault_count out.new }
+{
+    let Ok(text) = result_text(alloc, tasks, outcomes) else {
+        let _told = write_stop(out, Stop::OutOfMemory);
+        return Stop::OutOfMemory;
+    };
+    match write_whole(out, text.as_bytes()) {
+        Ok(()) => Stop::Done,
+        Err(_) => Stop::Write,
+    }
+}
+
+/// Writes the result lines and the stop line, once all lines were run and the flush failed, and gives
+/// the cause.
+fn tell_unsynced<K: Sink>(alloc: Global, tasks: &[Task], outcomes: &[Outcome], out: &mut K) -> Stop
+    requires { length outcomes.now ≡ length tasks.now }
+    ensures device { result ≡ Stop.Device }
+    ensures tells { TellsUnsynced (record { bytes = K.text out.old; faults = K.fault_count out.old })
+        (record { bytes = K.text out.new; faults = K.fault_count out.new }) tasks.now outcomes.now }
+    ensures grows { K.fault_count out.old ≤ K.fault_count out.new }
+{
+    let Ok(text) = result_text(alloc, tasks, outcomes) else {
+        let _told = write_stop(out, Stop::Device);
+        return Stop::Device;
+    };
+    let Ok(()) = write_whole(out, text.as_bytes()) else {
+        return Stop::Device;
+    };
+    let _told = write_stop(out, Stop::Device);
+    Stop::Device
+}
