@@ -130,12 +130,48 @@ fn tear(block: Option<&mut [u8; 4096]>, at: usize) {
     }
 }
 
+/// The same where the third block was cut at this byte: zeros stand from there on. None where they stood
+/// there before.
+fn epochs_cut(alloc: Global, at: usize) -> Result<Option<Vec<u8>>, Fail> {
+    let mut blocks = zeros(alloc, 6)?;
+    put_all(&mut blocks, "2222");
+    if !cut(blocks.get_mut(2), at) {
+        return Ok(None);
+    }
+    let epochs = epochs_in(alloc, blocks)?;
+    Ok(Some(epochs))
+}
+
+fn cut(block: Option<&mut [u8; 4096]>, at: usize) -> bool {
+    let Some(block) = block else {
+        return false;
+    };
+    if at >= 4096 {
+        return false;
+    }
+    let rest = &mut block[at..];
+    let is_cut = rest.iter().any(|byte| *byte != 0);
+    rest.fill(0);
+    is_cut
+}
+
 #[test]
 fn ends_at_a_torn_block(rt: HostRuntime) -> Result<(), Fail> {
-    for at in [0, 8, 16, 23, 24, 26, 27, 2048, 4087, 4088, 4095] {
+    for at in 0..4096 {
         let epochs = epochs_torn(rt.alloc(), at)?;
         assert_eq!(rt; epochs.as_slice(), b"22".as_slice(), "{at}");
     }
+    Ok(())
+}
+
+#[test]
+fn ends_at_a_block_that_is_cut(rt: HostRuntime) -> Result<(), Fail> {
+    for at in 0..4096 {
+        if let Some(epochs) = epochs_cut(rt.alloc(), at)? {
+            assert_eq!(rt; epochs.as_slice(), b"22".as_slice(), "{at}");
+        }
+    }
+    assert!(rt; epochs_cut(rt.alloc(), 4090)?.is_some());
     Ok(())
 }
 

@@ -354,6 +354,62 @@ fn every_image_of_a_shell_mounts(rt: HostRuntime) -> Result<(), Fail> {
     Ok(())
 }
 
+/// The status of a shell on the image that a stop of the disk at this moment leaves.
+fn status_after(
+    disk: &MemDisk,
+    alloc: Global,
+    moment: u64,
+    pick: Pick,
+) -> Result<Option<u8>, AllocError> {
+    let _blocks = disk.blocks();
+    let Some(image) = disk.image_at(alloc, moment, &[pick])? else {
+        return Ok(None);
+    };
+    let run = told(
+        alloc,
+        MemDisk::from_image(alloc, image),
+        "shell",
+        b"",
+        4096,
+        NONE,
+    )?;
+    Ok(Some(run.ended.status))
+}
+
+// Calls 1 to 257 write zeros, call 258 is a flush, call 259 writes block 0 and call 260 is a flush.
+#[test]
+fn a_stop_within_mkfs_leaves_no_superblock_or_the_first(rt: HostRuntime) -> Result<(), Fail> {
+    let alloc = rt.alloc();
+    let blank = MemDisk::new(alloc, 1_088)?;
+    let disk = told(alloc, blank, "mkfs", b"", 4096, NONE)?.ended.disk;
+    for block in 1..258u32 {
+        let call = u64::from(block);
+        for loose in [
+            Loose::Settled,
+            Loose::Written(call),
+            Loose::Half(call),
+            Loose::Zeros,
+        ] {
+            let status = status_after(&disk, alloc, call - 1, Pick { block, loose })?;
+            assert_eq!(rt; status, Some(3), "{block}");
+        }
+    }
+    for (loose, status) in [
+        (Loose::Settled, 3),
+        (Loose::Written(259), 0),
+        (Loose::Half(259), 3),
+        (Loose::Zeros, 3),
+    ] {
+        for moment in [258, 259] {
+            let got = status_after(&disk, alloc, moment, Pick { block: 0, loose })?;
+            assert_eq!(rt; got, Some(status), "{moment}");
+        }
+        let done = status_after(&disk, alloc, 260, Pick { block: 0, loose })?;
+        assert_eq!(rt; done, None);
+    }
+    Ok(())
+}
+
 #[test]
 fn paths_of_64_names(rt: HostRuntime) -> Result<(), Fail> {
     let alloc = rt.alloc();
