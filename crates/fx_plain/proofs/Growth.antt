@@ -20,7 +20,7 @@ use Rattle.fx_plain.specs.Table.{create, do_step, mkdir, place, walk, write_at}
 use Rattle.fx_plain.specs.Growth.{Grows, IsWithin, file_blocks, new_nodes, tree_after}
 use Rattle.fx_plain.specs.declared.contents.TheConstants.{BLOCK_BYTES, MAX_FILE}
 use Rattle.fx_plain.specs.declared.step.Step.{Step}
-use Rattle.fx_plain.specs.declared.step.Step.TheVariants.{Mkdir, Create, Write, Read}
+use Rattle.fx_plain.specs.declared.step.Step.TheVariants.{Mkdir, Create, Write, Read, List as ListStep, Stat as StatStep}
 use Rattle.fx_plain.specs.declared.step.Answer.{Answer}
 use Rattle.fx_plain.specs.declared.step.Answer.TheVariants.{Done}
 use Rattle.fx_plain.specs.declared.step.Refusal.{Refusal}
@@ -192,6 +192,8 @@ Grows-do_step tree (Mkdir path) = let a = mkdir_grows tree path in record { node
 Grows-do_step tree (Create path) = let a = create_grows tree path in record { nodes = a.nodes; attributes = a.attributes; blocks = a.blocks; file = a.file }
 Grows-do_step tree (Write path at text) = let a = written_grows tree path at text (walk tree path) (get tree path) refl in record { nodes = a.nodes; attributes = a.attributes; blocks = a.blocks; file = a.file }
 Grows-do_step tree (Read path at count) = let a = kept 0 0 tree in record { nodes = a.nodes; attributes = a.attributes; blocks = a.blocks; file = a.file }
+Grows-do_step tree (ListStep path) = let a = kept 0 0 tree in record { nodes = a.nodes; attributes = a.attributes; blocks = a.blocks; file = a.file }
+Grows-do_step tree (StatStep path) = let a = kept 0 0 tree in record { nodes = a.nodes; attributes = a.attributes; blocks = a.blocks; file = a.file }
 
 -- ---- many steps
 
@@ -225,6 +227,8 @@ one_more n step old new within grows = record {
     few (Create path) = omega arith
     few (Write path at text) = omega arith
     few (Read path at count) = omega arith
+    few (ListStep path) = omega arith
+    few (StatStep path) = omega arith
 
 after : (n : ℕ) (tree : Tree) (steps : List Step) → IsWithin n (sizes_of tree) → IsWithin (length steps + n) (sizes_of (tree_after tree steps))
 after n tree [] within = record { nodes = omega arith; attributes = within.attributes; blocks = omega arith }

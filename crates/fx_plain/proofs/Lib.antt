@@ -1,8 +1,13 @@
+pub mod Order
+pub mod Children
 pub mod Paths
 pub mod Views
 pub mod Sizes
+pub mod Found
 pub mod Marks
 pub mod Files
 pub mod Walks
+pub mod Writes
 pub mod Trees
+pub mod Bare
 pub mod Growth

@@ -25,7 +25,7 @@ no_entries : {A : Type 0} (xs : List A) → length xs ≡ 0 → xs ≡ []
 no_entries [] e = refl
 no_entries (x ∷ xs) e = absurd (cc)
 
-entries-tree_of : (es : Entries) → IsStrictlySortedBy key_cmp (keys_of es) → finite.entries (tree_of es) ≡ by_path es
+pub entries-tree_of : (es : Entries) → IsStrictlySortedBy key_cmp (keys_of es) → finite.entries (tree_of es) ≡ by_path es
 unfolding IsStrictlySortedBy
 entries-tree_of [] h = no_entries _ (sym (finite.len-entries (tree_of [])) ∙ finite.len-empty path_cmp Node)
 entries-tree_of (e ∷ es) h =

@@ -12,7 +12,7 @@ use Rattle.fx_plain.specs.Tree.{IsDirAt, IsTree, Tree, path_cmp, root}
 use Rattle.fx_plain.specs.Table.{create, do_step, mkdir, obstacle, or_else, place, walk, walk_from, write_at}
 use Rattle.fx_plain.specs.declared.contents.TheConstants.{MAX_FILE}
 use Rattle.fx_plain.specs.declared.step.Step.{Step}
-use Rattle.fx_plain.specs.declared.step.Step.TheVariants.{Mkdir, Create, Write, Read}
+use Rattle.fx_plain.specs.declared.step.Step.TheVariants.{Mkdir, Create, Write, Read, List as ListStep, Stat as StatStep}
 use Rattle.fx_plain.specs.declared.step.Answer.{Answer}
 use Rattle.fx_plain.specs.declared.step.Answer.TheVariants.{Done}
 use Rattle.fx_plain.specs.declared.step.Refusal.{Refusal}
@@ -20,7 +20,7 @@ use Rattle.fx_plain.specs.declared.step.Refusal.TheVariants.{TooLong}
 use Rattle.fx_plain.proofs.Paths.{paths_total, paths_exact}
 
 -- what an insertion leaves at a path q: the new node where q is the path, and else what lay there
-abbrev Left : Tree → List (List ℕ) → Node → List (List ℕ) → Type 0
+abbrev pub Left : Tree → List (List ℕ) → Node → List (List ℕ) → Type 0
 Left tree p node q = ((q ≡ p) × (get (insert tree p node) q ≡ Some node)) ⊎ ((q ≢ p) × (get (insert tree p node) q ≡ get tree q))
 
 less_equal : let a : Ordering = Less in a ≡ Equal → ⊥
@@ -29,7 +29,7 @@ less_equal e = cc
 greater_equal : let a : Ordering = Greater in a ≡ Equal → ⊥
 greater_equal e = cc
 
-left : (tree : Tree) (p : List (List ℕ)) (node : Node) (q : List (List ℕ)) → Left tree p node q
+pub left : (tree : Tree) (p : List (List ℕ)) (node : Node) (q : List (List ℕ)) → Left tree p node q
 left tree p node q = by_order (path_cmp q p) refl
   where
     by_order : (o : Ordering) → path_cmp q p ≡ o → Left tree p node q
@@ -50,7 +50,7 @@ is_dir (Some (Dir attributes)) e = (attributes, refl)
 is_dir (Some (File contents attributes)) e = absurd (cc)
 
 -- the path above a path that is walked is a directory
-walked : (tree : Tree) (before rest : List (List ℕ)) (name : List ℕ) → walk_from tree before (rest ++ name ∷ []) ≡ None → IsDirAt tree (before ++ rest)
+pub walked : (tree : Tree) (before rest : List (List ℕ)) (name : List ℕ) → walk_from tree before (rest ++ name ∷ []) ≡ None → IsDirAt tree (before ++ rest)
 walked tree before [] name e = let here = is_dir _ (both_none _ _ e).0 in (here.0, ap (get tree) (append-nil before) ∙ here.1)
 walked tree before (x ∷ rest) name e =
     let below = walked tree (before ++ x ∷ []) rest name (both_none _ _ e).1 in
@@ -112,3 +112,5 @@ IsTree-do_step tree (Mkdir path) k = mkdir_kept tree path k
 IsTree-do_step tree (Create path) k = create_kept tree path k
 IsTree-do_step tree (Write path at text) k = write_kept tree path at text k (walk tree path) (get tree path) refl refl
 IsTree-do_step tree (Read path at count) k = k
+IsTree-do_step tree (ListStep path) k = k
+IsTree-do_step tree (StatStep path) k = k

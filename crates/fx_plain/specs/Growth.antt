@@ -6,7 +6,7 @@ use Rattle.fx_plain.specs.Tree.{Tree}
 use Rattle.fx_plain.specs.Table.{do_step}
 use Rattle.fx_plain.specs.declared.contents.TheConstants.{BLOCK_BYTES, MAX_FILE}
 use Rattle.fx_plain.specs.declared.step.Step.{Step}
-use Rattle.fx_plain.specs.declared.step.Step.TheVariants.{Mkdir, Create, Write, Read}
+use Rattle.fx_plain.specs.declared.step.Step.TheVariants.{Mkdir, Create, Write, Read, List as ListStep, Stat as StatStep}
 
 -- the most nodes that a step adds
 abbrev pub new_nodes : Step → ℕ
@@ -14,6 +14,8 @@ new_nodes (Mkdir path) = 1
 new_nodes (Create path) = 1
 new_nodes (Write path at text) = 0
 new_nodes (Read path at count) = 0
+new_nodes (ListStep path) = 0
+new_nodes (StatStep path) = 0
 
 -- the most blocks that a step adds: those that hold a byte of the text that it writes
 abbrev pub new_blocks : Step → ℕ
@@ -21,6 +23,8 @@ new_blocks (Mkdir path) = 0
 new_blocks (Create path) = 0
 new_blocks (Write path at text) = length (covered at text)
 new_blocks (Read path at count) = 0
+new_blocks (ListStep path) = 0
+new_blocks (StatStep path) = 0
 
 -- the blocks of the longest file
 abbrev pub file_blocks : ℕ

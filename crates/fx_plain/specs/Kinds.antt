@@ -7,4 +7,4 @@ use Rattle.fx_plain.specs.declared.node.Kind.TheVariants.{Dir, File}
 -- no node in memory has attributes
 abbrev pub node_of : Kind → seen.Node
 node_of Dir = seen.Dir map.empty
-node_of (File contents) = seen.File contents map.empty
+node_of (File contents) = seen.File contents.value map.empty

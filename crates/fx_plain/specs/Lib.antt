@@ -5,3 +5,5 @@ pub mod Codes
 pub mod Memory
 pub mod Kinds
 pub mod Growth
+pub mod Listing
+pub mod Bare

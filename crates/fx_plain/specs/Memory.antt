@@ -1,12 +1,15 @@
 -- How the tree in memory is seen.
-use Rattle.std.specs.Prelude.{ℕ, suc, Bool, true, false, List, [], ◌∷◌, Option, None, Some, Result, Ok, Err, Vec}
+use Rattle.std.specs.Prelude.{ℕ, suc, ◌+◌, Bool, true, false, List, [], ◌∷◌, Option, None, Some, Result, Ok, Err, Vec, if◌then◌else◌, length, nat_lt}
 use Rattle.std.specs.Global.{Global}
 use Rattle.std.specs.FinMap as map
 use Rattle.std.specs.FinSet as set
 use Rattle.fx_plain.specs.Node.{Blocks, Contents, Node, Dir, File, written}
 use Rattle.fx_plain.specs.Tree.{Tree}
 use Rattle.fx_plain.specs.declared.step.Refusal.{Refusal}
-use Rattle.fx_plain.specs.declared.step.Refusal.TheVariants.{NotFound, IsDir}
+use Rattle.fx_plain.specs.declared.contents.TheConstants.{MAX_FILE}
+use Rattle.fx_plain.specs.declared.step.Answer.{Answer}
+use Rattle.fx_plain.specs.declared.step.Answer.TheVariants.{Done}
+use Rattle.fx_plain.specs.declared.step.Refusal.TheVariants.{NotFound, IsDir, TooLong}
 
 -- the places of the marks that are set, the first mark being at n
 abbrev pub places_from : ℕ → List Bool → List ℕ
@@ -31,10 +34,11 @@ abbrev pub contents_of : Node → Option Contents
 contents_of (Dir attributes) = None
 contents_of (File contents attributes) = Some contents
 
--- a file with the text in place of its bytes from `at` on; a directory stays
-abbrev pub written_node : ℕ → List ℕ → Node → Node
-written_node at text (Dir attributes) = Dir attributes
-written_node at text (File contents attributes) = File (written at text contents) attributes
+-- what a write into the node answers, and the node after it
+abbrev pub write_node : ℕ → List ℕ → Node → Result Answer Refusal × Node
+write_node at text (Dir attributes) = (Err IsDir, Dir attributes)
+write_node at text (File contents attributes) =
+    if nat_lt MAX_FILE (at + length text) then (Err TooLong, File contents attributes) else (Ok Done, File (written at text contents) attributes)
 
 -- the file that a step on a file meets, by what the walk meets and what lies at the path
 abbrev pub file_at : Option Refusal → Option Node → Result Contents Refusal

@@ -24,11 +24,15 @@ pub data Node : Type 0 where
   Dir : (attributes : Attributes) → Node
   File : (contents : Contents) (attributes : Attributes) → Node
 
+-- no bytes, and no held block
+abbrev pub no_contents : Contents
+no_contents = record { bytes = []; held = set.empty }
+
 abbrev pub empty_dir : Node
 empty_dir = Dir map.empty
 
 abbrev pub empty_file : Node
-empty_file = File (record { bytes = []; held = set.empty }) map.empty
+empty_file = File no_contents map.empty
 
 -- the bytes with zeros behind them, at least n
 abbrev pub grown : ℕ → List ℕ → List ℕ

@@ -1,13 +1,15 @@
 -- What each step answers on a tree, and the tree after it.
 use Rattle.std.specs.Prelude.{ℕ, ◌+◌, Bool, true, false, List, [], ◌∷◌, ◌++◌, Option, None, Some, Result, Ok, Err, if◌then◌else◌, nat_lt, length, take, drop}
 use Rattle.std.specs.FinMap.{get, insert}
+use Rattle.std.specs.FinSet.{len}
 use Rattle.fx_plain.specs.Node.{Node, Dir, File, empty_dir, empty_file, written}
-use Rattle.fx_plain.specs.Tree.{Tree}
+use Rattle.fx_plain.specs.Tree.{Tree, children}
 use Rattle.fx_plain.specs.declared.contents.TheConstants.{MAX_FILE, MAX_READ}
+use Rattle.fx_plain.specs.declared.kind.Kind.TheVariants as kind
 use Rattle.fx_plain.specs.declared.step.Step.{Step}
-use Rattle.fx_plain.specs.declared.step.Step.TheVariants.{Mkdir, Create, Write, Read}
+use Rattle.fx_plain.specs.declared.step.Step.TheVariants.{Mkdir, Create, Write, Read, List as ListStep, Stat as StatStep}
 use Rattle.fx_plain.specs.declared.step.Answer.{Answer}
-use Rattle.fx_plain.specs.declared.step.Answer.TheVariants.{Done, Text}
+use Rattle.fx_plain.specs.declared.step.Answer.TheVariants.{Done, Text, Names, Stat}
 use Rattle.fx_plain.specs.declared.step.Refusal.{Refusal}
 use Rattle.fx_plain.specs.declared.step.Refusal.TheVariants.{NotFound, NotDir, IsDir, Exists, NotVolume, TooLong}
 
@@ -61,12 +63,33 @@ read_at at count None (Some (Dir attributes)) = Err IsDir
 read_at at count None (Some (File contents attributes)) =
     if nat_lt MAX_READ count then Err TooLong else Ok (Text (take count (drop at contents.bytes)))
 
+-- the names of a directory's children
+abbrev pub list_at : Tree → List (List ℕ) → Option Refusal → Option Node → Result Answer Refusal
+list_at tree path (Some refusal) there = Err refusal
+list_at tree path None None = Err NotFound
+list_at tree path None (Some (Dir attributes)) = Ok (Names (children tree path))
+list_at tree path None (Some (File contents attributes)) = Err NotDir
+
+-- the kind of a node, with the number of a directory's children, or with the bytes and the held blocks of a file
+abbrev pub stat_at : Tree → List (List ℕ) → Option Refusal → Option Node → Result Answer Refusal
+stat_at tree path (Some refusal) there = Err refusal
+stat_at tree path None None = Err NotFound
+stat_at tree path None (Some (Dir attributes)) = Ok (Stat kind.Dir (length (children tree path)) 0)
+stat_at tree path None (Some (File contents attributes)) = Ok (Stat kind.File (length contents.bytes) (len contents.held))
+
 -- what a step answers, or its first refusal, and the tree after it
 abbrev pub do_step : Tree → Step → Result Answer Refusal × Tree
 do_step tree (Mkdir path) = mkdir tree path
 do_step tree (Create path) = create tree path
 do_step tree (Write path at text) = write_at tree path at text (walk tree path) (get tree path)
 do_step tree (Read path at count) = (read_at at count (walk tree path) (get tree path), tree)
+do_step tree (ListStep path) = (list_at tree path (walk tree path) (get tree path), tree)
+do_step tree (StatStep path) = (stat_at tree path (walk tree path) (get tree path), tree)
+
+-- why a step was refused, if it was
+abbrev pub refused : Result Answer Refusal → Option Refusal
+refused (Ok answer) = None
+refused (Err refusal) = Some refusal
 
 -- the step looks at the tree and leaves it
 abbrev pub is_reading : Step → Bool
@@ -74,6 +97,8 @@ is_reading (Mkdir path) = false
 is_reading (Create path) = false
 is_reading (Write path at text) = false
 is_reading (Read path at count) = true
+is_reading (ListStep path) = true
+is_reading (StatStep path) = true
 
 abbrev pub go_on : ℕ → Result Answer Refusal → Result Tree (ℕ × Refusal) → Result Tree (ℕ × Refusal)
 go_on index (Ok answer) rest = rest

@@ -1,5 +1,6 @@
 -- The plain tree: what lies at each path.
-use Rattle.std.specs.Prelude.{◌≡◌, ℕ, ◌-◌, List, [], ◌∷◌, ◌++◌, Some, sum_by}
+use Rattle.std.specs.Prelude.{◌≡◌, ℕ, ◌-◌, List, [], ◌∷◌, ◌++◌, Option, None, Some, if◌then◌else◌, filter_map, sum_by}
+use Rattle.std.specs.Ordering.{eq_by_cmp}
 use Rattle.std.specs.declared.cmp.Ordering.{Ordering}
 use Rattle.std.specs.Cmp.Lexicographic.{slice_cmp}
 use Rattle.std.specs.FinMap as map
@@ -27,6 +28,18 @@ IsDirAt tree path = (attributes : Attributes) × (map.get tree path ≡ Some (Di
 pub record IsTree (tree : Tree) : Type 0 where
   pub top : map.get tree [] ≡ Some empty_dir
   pub above : (path : List (List ℕ)) (name : List ℕ) (node : Node) → map.get tree (path ++ name ∷ []) ≡ Some node → IsDirAt tree path
+
+-- the last name of a path that has one name more than the directory's, and else begins as that does
+abbrev pub child_name : List (List ℕ) → List (List ℕ) → Option (List ℕ)
+child_name [] [] = None
+child_name [] (name ∷ []) = Some name
+child_name [] (name ∷ more ∷ names) = None
+child_name (above ∷ directory) [] = None
+child_name (above ∷ directory) (name ∷ names) = if eq_by_cmp name_cmp above name then child_name directory names else None
+
+-- the names of a directory's children, in the order of their bytes
+abbrev pub children : Tree → List (List ℕ) → List (List ℕ)
+children tree directory = filter_map (child_name directory) (map.keys tree)
 
 abbrev pub attribute_count : Node → ℕ
 attribute_count (Dir attributes) = map.len attributes

@@ -76,6 +76,13 @@ impl Contents {
         Ok(Bytes::new(Vec::from_slice(alloc, text)?))
     }
 
+    /// How many bytes.
+    pub fn len(&self) -> usize
+        ensures { result ≡ length self.now.bytes }
+    {
+        self.bytes.len()
+    }
+
     /// How many blocks are held. One pass over the marks.
     pub fn held(&self) -> usize
         ensures { result ≡ set.len self.now.held }

@@ -1,14 +1,16 @@
 //! What lies at a path.
-ghost use Rattle.std.specs.Prelude.{◌≡◌, ◌+◌, ◌≤◌, length, option_copied, OnOk, OnErr};
+ghost use Rattle.std.specs.Prelude.{◌≡◌, option_copied, IfOk, OnOk, OnErr};
 ghost use Rattle.fx_plain.specs.Node.{empty_dir, empty_file};
 ghost use Rattle.fx_plain.specs.Tree.{attribute_count, held_count};
-ghost use Rattle.fx_plain.specs.Memory.{contents_of, written_node};
+ghost use Rattle.fx_plain.specs.Memory.{contents_of, write_node};
 
 use crate::contents::{Contents, MAX_FILE};
+use crate::step::{Answer, Refusal};
 use std::alloc::{AllocError, Global};
 use std::marker::Model;
 
-/// A directory or a file. It keeps no attributes, since no step makes one.
+/// A directory or a file. It keeps no attributes, since no step makes one. What a file holds stands
+/// in a box of its own, so that the map of nodes is small.
 #[derive(Debug, Drop)]
 pub struct Node {
     kind: Kind,
@@ -17,7 +19,7 @@ pub struct Node {
 #[derive(Debug, Drop)]
 enum Kind {
     Dir,
-    File(Contents),
+    File(Box<Contents>),
 }
 
 impl Model for Node {
@@ -42,12 +44,13 @@ impl Node {
     }
 
     /// An empty file.
-    pub fn file(alloc: Global) -> Node
-        ensures { result ≡ empty_file }
+    pub fn file(alloc: Global) -> Result<Node, AllocError>
+        ensures { IfOk result (λ node. node ≡ empty_file) }
     {
-        Node {
-            kind: Kind::File(Contents::new(alloc)),
-        }
+        let contents = Box::new(alloc, Contents::new(alloc))?;
+        Ok(Node {
+            kind: Kind::File(contents),
+        })
     }
 
     /// What a file holds; nothing for a directory.
@@ -80,15 +83,19 @@ impl Node {
         }
     }
 
-    /// Writes into a file, as `Contents::write` does, and leaves a directory as it is.
-    pub fn write(&mut self, at: usize, text: &[u8]) -> Result<(), AllocError>
-        requires { at + length text.now ≤ MAX_FILE }
-        ensures ok { OnOk result (self.new ≡ written_node at text.now self.old) }
+    /// Writes the text into a file, from byte `at` on, and refuses it at a directory.
+    pub fn write(&mut self, at: u32, text: &[u8]) -> Result<Result<Answer, Refusal>, AllocError>
+        ensures ok { IfOk result (λ answer. write_node at text.now self.old ≡ (answer, self.new)) }
         ensures err { OnErr result (self.new ≡ self.old) }
     {
-        match &mut self.kind {
-            Kind::Dir => Ok(()),
-            Kind::File(contents) => contents.write(at, text),
+        let Kind::File(contents) = &mut self.kind else {
+            return Ok(Err(Refusal::IsDir));
+        };
+        let at = at as usize;
+        if at + text.len() > MAX_FILE {
+            return Ok(Err(Refusal::TooLong));
         }
+        contents.write(at, text)?;
+        Ok(Ok(Answer::Done))
     }
 }

@@ -1,17 +1,25 @@
 //! The tree in memory, and what a step does to it.
-ghost use Rattle.std.specs.Prelude.{List, ◌≡◌, ◌≢◌, ◌+◌, ◌^◌, ◌<◌, ◌≤◌, true, false, sum_by, length, option_copied, None, Some, Ok, Err, OnOk, OnErr, IfOk, MatchResult};
+ghost use Rattle.std.specs.Prelude.{ℕ, ◌↔◌, Contains, IsSome, option_map, List, [], ◌∷◌, ◌++◌, ◌≡◌, ◌≢◌, ◌+◌, ◌^◌, ◌<◌, ◌≤◌, true, false, sum_by, length, slice_set as set, option_copied, None, Some, Ok, Err, OnOk, OnErr, IfOk, MatchOption, MatchResult, if◌then◌else◌};
 ghost use Rattle.std.specs.FinMap as map;
-ghost use Rattle.fx_plain.specs.Node.{Node, File, Attributes, Contents, written};
+ghost use Rattle.fx_plain.specs.Node.{Node, File, Attributes, empty_dir, Contents, written};
 ghost use Rattle.std.specs.BTreeMap.{values};
-ghost use Rattle.fx_plain.specs.Tree.{IsTree, Tree, attribute_count, held_count, root, sizes_of};
+ghost use Rattle.fx_plain.specs.Tree.{IsTree, Tree, children, attribute_count, held_count, root, sizes_of};
 ghost use Rattle.fx_plain.specs.declared.step.Step.{Step};
 ghost use Rattle.fx_plain.specs.declared.step.Answer.{Answer};
+ghost use Rattle.fx_plain.specs.declared.step.Answer.TheVariants.{Stat};
 ghost use Rattle.fx_plain.specs.declared.step.Refusal.{Refusal};
-ghost use Rattle.fx_plain.specs.Table.{create, do_step, is_reading, mkdir, obstacle, place, read_at, walk, write_at};
+ghost use Rattle.fx_plain.specs.Table.{create, do_step, is_reading, list_at, mkdir, obstacle, place, read_at, refused, stat_at, walk, write_at};
 ghost use Rattle.fx_plain.specs.Memory.{file_at};
+ghost use Rattle.fx_plain.specs.Bare.{IsCreated, IsMade, IsWritten, bare, bare_node};
+ghost use Rattle.fx_item.specs.Name.{name_cmp};
+ghost use Rattle.fx_plain.specs.declared.step.Step.TheVariants.{Mkdir, Create, Write};
+ghost use Rattle.std.specs.List.Sorted.{IsStrictlySortedBy};
+ghost use Rattle.fx_plain.specs.Listing.{GoesOn, IsBelow, IsFirst, children_from, paths_from};
 ghost use Rattle.fx_plain.specs.Growth.{Grows, IsWithin, tree_after};
 
 use crate::contents::{Contents, MAX_FILE, MAX_READ};
+use crate::kind::Kind;
+use crate::names::Names;
 use crate::node::Node;
 use crate::step::{Answer, Refusal, Step};
 use fx_item::{Name, Sizes};
@@ -49,7 +57,8 @@ impl Plain {
 
     /// Does the step, or refuses it and leaves the tree as it was; so does a step that finds too
     /// little memory. Costs the depth of the path times the logarithm of the number of nodes, and
-    /// the bytes that are written, or read and answered.
+    /// the bytes that are written, or read and answered; at a directory, to list it or to tell of it
+    /// costs a look-up for each child.
     pub fn step(
         &mut self,
         alloc: Global,
@@ -63,6 +72,8 @@ impl Plain {
             Step::Create { path } => self.create(alloc, path.as_slice()),
             Step::Write { path, at, text } => self.write(path.as_slice(), *at, text.as_slice()),
             Step::Read { path, at, count } => self.read(alloc, path.as_slice(), *at, *count),
+            Step::List { path } => self.list(alloc, path.as_slice()),
+            Step::Stat { path } => self.stat(alloc, path.as_slice()),
         }
     }
 
@@ -80,15 +91,109 @@ impl Plain {
         }
     }
 
+    /// What refuses a step on this tree; nothing where it would be done. Takes no memory. Costs the
+    /// depth of the path times the logarithm of the number of nodes.
+    pub fn refusal(&self, step: &Step) -> Option<Refusal>
+        ensures { result ≡ refused (do_step self.now step.now).0 }
+    {
+        match step {
+            Step::Mkdir { path } => self.mkdir_refusal(path.as_slice()),
+            Step::Create { path } => self.create_refusal(path.as_slice()),
+            Step::Write { path, at, text } => {
+                self.write_refusal(path.as_slice(), *at, text.as_slice())
+            }
+            Step::Read { path, at, count } => self.read_refusal(path.as_slice(), *at, *count),
+            Step::List { path } => self.list_refusal(path.as_slice()),
+            Step::Stat { path } => self.stat_refusal(path.as_slice()),
+        }
+    }
+
+    fn mkdir_refusal(&self, path: &[Name]) -> Option<Refusal>
+        ensures { result ≡ refused (mkdir self.now path.now).0 }
+    {
+        if path.is_empty() {
+            return Some(Refusal::Exists);
+        }
+        self.place_refusal(path)
+    }
+
+    fn create_refusal(&self, path: &[Name]) -> Option<Refusal>
+        ensures { result ≡ refused (create self.now path.now).0 }
+    {
+        if path.len() < 2 {
+            return Some(Refusal::NotVolume);
+        }
+        self.place_refusal(path)
+    }
+
+    /// What keeps a new node from a path.
+    fn place_refusal(&self, path: &[Name]) -> Option<Refusal>
+        ensures { (node : Node) → result ≡ refused (place self.now path.now node (walk self.now path.now) (map.get self.now path.now)).0 }
+    {
+        if let Some(refusal) = self.walk(path) {
+            return Some(refusal);
+        }
+        if self.get(path).is_some() {
+            return Some(Refusal::Exists);
+        }
+        None
+    }
+
+    fn write_refusal(&self, path: &[Name], at: u32, text: &[u8]) -> Option<Refusal>
+        ensures { result ≡ refused (write_at self.now path.now at text.now (walk self.now path.now) (map.get self.now path.now)).0 }
+    {
+        if let Err(refusal) = self.file(path) {
+            return Some(refusal);
+        }
+        if at as usize + text.len() > MAX_FILE {
+            return Some(Refusal::TooLong);
+        }
+        None
+    }
+
+    fn read_refusal(&self, path: &[Name], at: u32, count: u32) -> Option<Refusal>
+        ensures { result ≡ refused (read_at at count (walk self.now path.now) (map.get self.now path.now)) }
+    {
+        if let Err(refusal) = self.file(path) {
+            return Some(refusal);
+        }
+        if count as usize > MAX_READ {
+            return Some(Refusal::TooLong);
+        }
+        None
+    }
+
+    fn list_refusal(&self, path: &[Name]) -> Option<Refusal>
+        ensures { result ≡ refused (list_at self.now path.now (walk self.now path.now) (map.get self.now path.now)) }
+    {
+        if let Some(refusal) = self.walk(path) {
+            return Some(refusal);
+        }
+        self.obstacle(path)
+    }
+
+    fn stat_refusal(&self, path: &[Name]) -> Option<Refusal>
+        ensures { result ≡ refused (stat_at self.now path.now (walk self.now path.now) (map.get self.now path.now)) }
+    {
+        if let Some(refusal) = self.walk(path) {
+            return Some(refusal);
+        }
+        if self.get(path).is_none() {
+            return Some(Refusal::NotFound);
+        }
+        None
+    }
+
     /// Makes a directory.
     fn mkdir(&mut self, alloc: Global, path: &[Name]) -> Result<Result<Answer, Refusal>, AllocError>
         ensures ok { IfOk result (λ answer. mkdir self.old path.now ≡ (answer, self.new)) }
         ensures err { OnErr result (self.new ≡ self.old) }
     {
-        if path.is_empty() {
-            return Ok(Err(Refusal::Exists));
+        if let Some(refusal) = self.mkdir_refusal(path) {
+            return Ok(Err(refusal));
         }
-        self.place(alloc, path, Node::dir())
+        self.insert(alloc, path, Node::dir())?;
+        Ok(Ok(Answer::Done))
     }
 
     /// Makes an empty file.
@@ -100,28 +205,10 @@ impl Plain {
         ensures ok { IfOk result (λ answer. create self.old path.now ≡ (answer, self.new)) }
         ensures err { OnErr result (self.new ≡ self.old) }
     {
-        if path.len() < 2 {
-            return Ok(Err(Refusal::NotVolume));
-        }
-        self.place(alloc, path, Node::file(alloc))
-    }
-
-    /// Puts a new node at a path.
-    fn place(
-        &mut self,
-        alloc: Global,
-        path: &[Name],
-        node: Node,
-    ) -> Result<Result<Answer, Refusal>, AllocError>
-        ensures ok { IfOk result (λ answer. place self.old path.now node (walk self.old path.now) (map.get self.old path.now) ≡ (answer, self.new)) }
-        ensures err { OnErr result (self.new ≡ self.old) }
-    {
-        if let Some(refusal) = self.walk(path) {
+        if let Some(refusal) = self.create_refusal(path) {
             return Ok(Err(refusal));
         }
-        if self.get(path).is_some() {
-            return Ok(Err(Refusal::Exists));
-        }
+        let node = Node::file(alloc)?;
         self.insert(alloc, path, node)?;
         Ok(Ok(Answer::Done))
     }
@@ -136,15 +223,13 @@ impl Plain {
         ensures ok { IfOk result (λ answer. write_at self.old path.now at text.now (walk self.old path.now) (map.get self.old path.now) ≡ (answer, self.new)) }
         ensures err { OnErr result (self.new ≡ self.old) }
     {
-        if let Err(refusal) = self.file(path) {
+        if let Some(refusal) = self.walk(path) {
             return Ok(Err(refusal));
         }
-        let at = at as usize;
-        if at + text.len() > MAX_FILE {
-            return Ok(Err(Refusal::TooLong));
-        }
-        self.overwrite(path, at, text)?;
-        Ok(Ok(Answer::Done))
+        let Some(node) = self.nodes.get_mut(path) else {
+            return Ok(Err(Refusal::NotFound));
+        };
+        node.write(at, text)
     }
 
     /// Reads at most `count` bytes of the file at a path, from byte `at` on.
@@ -167,6 +252,80 @@ impl Plain {
         }
         let text = contents.read(alloc, at as usize, count)?;
         Ok(Ok(Answer::Text(text)))
+    }
+
+    /// Names what lies in the directory at a path.
+    fn list(&self, alloc: Global, path: &[Name]) -> Result<Result<Answer, Refusal>, AllocError>
+        ensures { IfOk result (λ answer. list_at self.now path.now (walk self.now path.now) (map.get self.now path.now) ≡ answer) }
+    {
+        if let Some(refusal) = self.walk(path) {
+            return Ok(Err(refusal));
+        }
+        if let Some(refusal) = self.obstacle(path) {
+            return Ok(Err(refusal));
+        }
+        let names = self.children(alloc, path)?;
+        Ok(Ok(Answer::Names(Names::new(names))))
+    }
+
+    /// Tells what lies at a path.
+    fn stat(&self, alloc: Global, path: &[Name]) -> Result<Result<Answer, Refusal>, AllocError>
+        ensures { IfOk result (λ answer. stat_at self.now path.now (walk self.now path.now) (map.get self.now path.now) ≡ answer) }
+    {
+        if let Some(refusal) = self.walk(path) {
+            return Ok(Err(refusal));
+        }
+        let Some(node) = self.get(path) else {
+            return Ok(Err(Refusal::NotFound));
+        };
+        let Some(contents) = node.contents() else {
+            let names = self.children(alloc, path)?;
+            return Ok(Ok(stat_of(Kind::Dir, names.len(), 0)?));
+        };
+        Ok(Ok(stat_of(Kind::File, contents.len(), contents.held())?))
+    }
+
+    /// The names of the children of the directory at a path, in the order of their bytes. What
+    /// lies below a child is passed over, so it costs a look-up for each child.
+    fn children(&self, alloc: Global, path: &[Name]) -> Result<Vec<Name>, AllocError>
+        ensures { IfOk result (λ names. names.items ≡ children self.now path.now) }
+    {
+        let mut names = Vec::new(alloc);
+        let mut from = path.to_vec(alloc)?;
+        from.push(Name::new(Vec::new(alloc)))?;
+        while let Some((name, is_child)) = self.next_below(path, &from) {
+            keep(&mut names, name, is_child)?;
+            go_past(&mut from, path.len(), name.as_slice())?;
+        }
+        Ok(names)
+    }
+
+    /// The name with which the first path from `from` on goes on from the directory at `path`, and
+    /// whether it ends there.
+    fn next_below(&self, path: &[Name], from: &Vec<Name>) -> Option<(&Name, bool)>
+        requires { IsBelow path.now from.now.items }
+        ensures { MatchOption result (children_from self.now path.now from.now.items ≡ []) (λ next. GoesOn self.now path.now from.now.items next.0.now next.1) }
+    {
+        let Some(found) = self.first_from(from) else {
+            return None;
+        };
+        let Some(below) = found.strip_prefix(path) else {
+            return None;
+        };
+        let Some((name, deeper)) = below.split_first() else {
+            return None;
+        };
+        Some((name, deeper.is_empty()))
+    }
+
+    /// The first path from `from` on at which something lies.
+    fn first_from(&self, from: &Vec<Name>) -> Option<&Vec<Name>>
+        ensures { MatchOption result (paths_from self.now from.now.items ≡ []) (λ found. IsFirst found.now.items (paths_from self.now from.now.items)) }
+    {
+        let Some((path, _)) = self.nodes.range(from..).next() else {
+            return None;
+        };
+        Some(path)
     }
 
     /// The file at a path, or why there is none.
@@ -225,18 +384,44 @@ impl Plain {
         self.nodes.insert(path.to_vec(alloc)?, node)?;
         Ok(())
     }
+}
 
-    /// Writes into the file at a path, where one lies there.
-    fn overwrite(&mut self, path: &[Name], at: usize, text: &[u8]) -> Result<(), AllocError>
-        requires { at + length text.now ≤ MAX_FILE }
-        ensures ok { OnOk result ((contents : Contents) (attributes : Attributes) → map.get self.old path.now ≡ Some (File contents attributes) → self.new ≡ map.insert self.old path.now (File (written at text.now contents) attributes)) }
-        ensures err { OnErr result (self.new ≡ self.old) }
-    {
-        let Some(node) = self.nodes.get_mut(path) else {
-            return Ok(());
-        };
-        node.write(at, text)
+/// Adds the name where it is that of a child.
+fn keep(names: &mut Vec<Name>, name: &Name, is_child: bool) -> Result<(), AllocError>
+    ensures { OnOk result (names.new.items ≡ names.old.items ++ (if is_child then name.now ∷ [] else [])) }
+{
+    if !is_child {
+        return Ok(());
     }
+    names.push(name.clone()?)?;
+    Ok(())
+}
+
+/// Turns the name at this place, which is the last, into the first that begins with another.
+fn go_past(from: &mut Vec<Name>, last: usize, name: &[u8]) -> Result<(), AllocError>
+    requires { last < length from.old.items }
+    ensures { OnOk result (from.new.items ≡ set from.old.items last (name.now ++ 0 ∷ [])) }
+{
+    let alloc = *from.allocator();
+    let mut next = Vec::with_capacity(alloc, name.len() + 1)?;
+    next.extend_from_slice(name)?;
+    next.push(0)?;
+    from[last] = Name::new(next);
+    Ok(())
+}
+
+/// What is told of a node. A count past 32 bits is answered as want of memory: there is none for so
+/// many nodes.
+fn stat_of(kind: Kind, size: usize, blocks: usize) -> Result<Answer, AllocError>
+    ensures { IfOk result (λ answer. answer ≡ Stat kind size blocks) }
+{
+    let Ok(size) = u32::try_from(size) else {
+        return Err(AllocError);
+    };
+    let Ok(blocks) = u32::try_from(blocks) else {
+        return Err(AllocError);
+    };
+    Ok(Answer::Stat { kind, size, blocks })
 }
 
 /// The attributes of all nodes.
@@ -265,6 +450,30 @@ pub fn step_laws()
     ensures read { (tree : Tree) (step : Step) → is_reading step ≡ true → (do_step tree step).1 ≡ tree }
     ensures changed { (tree : Tree) (step : Step) (answer : Answer) → is_reading step ≡ false → (do_step tree step).0 ≡ Ok answer → answer ≡ Answer.Done }
     ensures seen { (tree : Tree) (step : Step) → is_reading step ≡ true → (do_step tree step).0 ≢ Ok Answer.Done }
+{}
+
+/// What a tree is without what its files hold: the same nodes at the same paths, where a file has no
+/// bytes and holds no block.
+pub fn bare_laws()
+    ensures get { (tree : Tree) (path : List (List ℕ)) → map.get (bare tree) path ≡ option_map bare_node (map.get tree path) }
+    ensures root { bare root ≡ root }
+    ensures again { (tree : Tree) → bare (bare tree) ≡ bare tree }
+    ensures insert { (tree : Tree) (path : List (List ℕ)) (node : Node) → bare (map.insert tree path node) ≡ map.insert (bare tree) path (bare_node node) }
+{}
+
+/// What a step that is done changes: a new node stands below a directory, at a path where nothing
+/// lay; a file holds a text, and the tree without what files hold is the same.
+pub fn change_laws()
+    ensures mkdir { (tree : Tree) (path : List (List ℕ)) (answer : Answer) → (do_step tree (Mkdir path)).0 ≡ Ok answer → IsMade tree path empty_dir (do_step tree (Mkdir path)).1 }
+    ensures create { (tree : Tree) (path : List (List ℕ)) (answer : Answer) → (do_step tree (Create path)).0 ≡ Ok answer → IsCreated tree path (do_step tree (Create path)).1 }
+    ensures write { (tree : Tree) (path : List (List ℕ)) (at : ℕ) (text : List ℕ) (answer : Answer) → IsTree tree → (do_step tree (Write path at text)).0 ≡ Ok answer → IsWritten tree path at text (do_step tree (Write path at text)).1 }
+{}
+
+/// The names of a directory's children, as a step lists them: each once, in the order of their
+/// bytes, and those at whose path something lies.
+pub fn children_laws()
+    ensures there { (tree : Tree) (path : List (List ℕ)) (name : List ℕ) → Contains (children tree path) name ↔ IsSome (map.get tree (path ++ name ∷ [])) }
+    ensures rise { (tree : Tree) (path : List (List ℕ)) → IsStrictlySortedBy name_cmp (children tree path) }
 {}
 
 /// A step adds at most one node, at most the blocks of a text that it writes and at most those of

@@ -1,6 +1,8 @@
 //! The steps of a script, and what they answer.
 ghost use Rattle.std.specs.Prelude.{◌≡◌};
 
+use crate::kind::Kind;
+use crate::names::Names;
 use crate::path::Path;
 use fx_item::Bytes;
 use std::alloc::AllocError;
@@ -18,6 +20,10 @@ pub enum Step {
     Write { path: Path, at: u32, text: Bytes },
     /// Reads at most `count` bytes of a file, from byte `at` on.
     Read { path: Path, at: u32, count: u32 },
+    /// Names what lies in a directory.
+    List { path: Path },
+    /// Tells what lies at a path.
+    Stat { path: Path },
 }
 
 /// The same step in memory of its own. Costs its bytes.
@@ -41,6 +47,12 @@ impl Clone for Step {
                 path: path.clone()?,
                 at: *at,
                 count: *count,
+            }),
+            Step::List { path } => Ok(Step::List {
+                path: path.clone()?,
+            }),
+            Step::Stat { path } => Ok(Step::Stat {
+                path: path.clone()?,
             }),
         }
     }
@@ -91,6 +103,11 @@ pub enum Answer {
     Done,
     /// Bytes of a file.
     Text(Bytes),
+    /// The names of a directory's children, in the order of their bytes.
+    Names(Names),
+    /// A directory with the number of its children, or a file with its bytes and the number of the
+    /// blocks that are held for it.
+    Stat { kind: Kind, size: u32, blocks: u32 },
 }
 
 /// Why a step was refused; the tree is as before it.

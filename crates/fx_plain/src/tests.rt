@@ -1,6 +1,10 @@
 //! Steps on a tree that begins as the root alone. A row is a step in words, an arrow, and what it
-//! answers: `done`, the refusal's name in small letters, or the text that is read after a `=`.
-use crate::{Answer, Path, Plain, Refusal, Step, Steps, size_laws, step_laws};
+//! answers: `done`, the refusal's name in small letters, the text that is read after a `=`, the
+//! names of a directory, or what a node is.
+use crate::{
+    Answer, Kind, Names, Path, Plain, Refusal, Step, Steps, bare_laws, change_laws, children_laws,
+    size_laws, step_laws,
+};
 use fx_item::{Bytes, Name, Sizes};
 use std::alloc::{AllocError, Global};
 use std::process::Abort;
@@ -61,6 +65,41 @@ write /v/c 16777215 x -> done
 write /v/c 16777216 x -> toolong
 read /v/c 16777214 9 -> =\0x";
 
+const LISTINGS: &str = "list / -> names:
+stat / -> dir 0 0
+mkdir /v -> done
+list /v -> names:
+create /v/a -> done
+write /v/a 4095 xy -> done
+stat /v/a -> file 4097 2
+write /v/a 16777215 x -> done
+stat /v/a -> file 16777216 3
+mkdir /w -> done
+mkdir /w/ab -> done
+mkdir /w/a -> done
+create /w/a.b -> done
+create /w/a/x -> done
+mkdir /w/a/y -> done
+create /w/a/y/z -> done
+create /w/ab/c -> done
+mkdir /wx -> done
+create /wx/q -> done
+list /w -> names:a,a.b,ab
+list /w/a -> names:x,y
+list /w/a/y -> names:z
+list / -> names:v,w,wx
+stat / -> dir 3 0
+stat /w -> dir 3 0
+stat /w/a -> dir 2 0
+stat /w/a.b -> file 0 0
+list /w/a.b -> notdir
+list /w/a.b/x -> notdir
+list /w/b -> notfound
+list /x/y -> notfound
+stat /w/a.b/x -> notdir
+stat /w/b -> notfound
+stat /x/y -> notfound";
+
 fn path_of(alloc: Global, text: &str) -> Result<Path, AllocError> {
     let mut names = Vec::new(alloc);
     for name in text.split('/') {
@@ -80,6 +119,12 @@ fn step_of(alloc: Global, text: &str) -> Result<Step, Fail> {
     }
     if word == "create" {
         return Ok(Step::Create { path });
+    }
+    if word == "list" {
+        return Ok(Step::List { path });
+    }
+    if word == "stat" {
+        return Ok(Step::Stat { path });
     }
     let at = words.next().ok_or("no place")?.parse::<u32>()?;
     let last = words.next().ok_or("no text or count")?;
@@ -102,28 +147,73 @@ fn word_of(refusal: Refusal) -> &'static str {
     }
 }
 
-fn is_wanted(answer: &Result<Answer, Refusal>, wanted: &str) -> bool {
-    match answer {
-        Ok(Answer::Done) => wanted == "done",
-        Ok(Answer::Text(text)) => match wanted.strip_prefix('=') {
-            Some(wanted) => text.as_slice() == wanted.as_bytes(),
-            None => false,
-        },
-        Err(refusal) => wanted == word_of(*refusal),
+/// The names with commas between them.
+fn joined(alloc: Global, names: &Names) -> Result<Vec<u8>, AllocError> {
+    let mut text = Vec::new(alloc);
+    for name in names.as_slice() {
+        if !text.is_empty() {
+            text.push(b',')?;
+        }
+        text.extend_from_slice(name.as_slice())?;
+    }
+    Ok(text)
+}
+
+/// Whether the text is this mark and then these bytes.
+fn is_marked(text: &str, mark: &str, bytes: &[u8]) -> bool {
+    match text.strip_prefix(mark) {
+        Some(rest) => rest.as_bytes() == bytes,
+        None => false,
     }
 }
 
-/// Does the step of a row.
+fn is_wanted(
+    alloc: Global,
+    answer: &Result<Answer, Refusal>,
+    wanted: &str,
+) -> Result<bool, AllocError> {
+    match answer {
+        Ok(Answer::Done) => Ok(wanted == "done"),
+        Ok(Answer::Text(text)) => Ok(is_marked(wanted, "=", text.as_slice())),
+        Ok(Answer::Names(names)) => {
+            let text = joined(alloc, names)?;
+            Ok(is_marked(wanted, "names:", text.as_slice()))
+        }
+        Ok(Answer::Stat { kind, size, blocks }) => {
+            let word = match kind {
+                Kind::Dir => "dir",
+                Kind::File => "file",
+            };
+            let mut text = String::new(alloc);
+            write!(text, "{word} {size} {blocks}")?;
+            Ok(wanted == text.as_str())
+        }
+        Err(refusal) => Ok(wanted == word_of(*refusal)),
+    }
+}
+
+/// Whether what was foretold is what came.
+fn is_refusal_of(foretold: Option<Refusal>, answer: &Result<Answer, Refusal>) -> bool {
+    match answer {
+        Ok(_) => foretold.is_none(),
+        Err(refusal) => foretold == Some(*refusal),
+    }
+}
+
+/// Does the step of a row, after it is asked whether it would be refused.
 fn do_row(rt: &impl Abort, alloc: Global, plain: &mut Plain, row: &str) -> Result<(), Fail> {
     let (text, wanted) = row.split_once(" -> ").ok_or("no arrow")?;
-    let answer = plain.step(alloc, &step_of(alloc, text)?)?;
-    assert!(rt; is_wanted(&answer, wanted), "at {row}");
+    let step = step_of(alloc, text)?;
+    let refusal = plain.refusal(&step);
+    let answer = plain.step(alloc, &step)?;
+    assert!(rt; is_refusal_of(refusal, &answer), "foretold at {row}");
+    assert!(rt; is_wanted(alloc, &answer, wanted)?, "at {row}");
     Ok(())
 }
 
 #[test]
 fn steps_answer_as_the_table_says(rt: HostRuntime) -> Result<(), Fail> {
-    for table in [REFUSALS, FILES] {
+    for table in [REFUSALS, FILES, LISTINGS] {
         let mut plain = Plain::new(rt.alloc())?;
         for row in table.split('\n') {
             do_row(&rt, rt.alloc(), &mut plain, row)?;
@@ -143,10 +233,15 @@ fn copies_are_the_same(rt: HostRuntime) -> Result<(), Fail> {
     let steps = Steps::new(steps);
     let mut plain = Plain::new(rt.alloc())?;
     for step in steps.as_slice() {
-        assert!(rt; is_wanted(&plain.step(rt.alloc(), step)?, "done"));
+        let answer = plain.step(rt.alloc(), step)?;
+        assert!(rt; is_wanted(rt.alloc(), &answer, "done")?);
     }
-    assert!(rt; is_wanted(&plain.step(rt.alloc(), &step)?, "exists"));
+    let answer = plain.step(rt.alloc(), &step)?;
+    assert!(rt; is_wanted(rt.alloc(), &answer, "exists")?);
     step_laws();
+    change_laws();
+    bare_laws();
+    children_laws();
     Ok(())
 }
 
