@@ -1,15 +1,19 @@
 -- What a search for a byte tells.
 use Rattle.std.proofs.Common.{◌≡◌, ◌≢◌, ℕ, zero, suc, ◌<◌, ◌≤◌, ◌==◌, ◌||◌, Bool, true, false, cond, List, [], ◌∷◌, length, get_or, take, drop, refl, sym, ap, ◌∙◌, arith, inl, inr}
-use Rattle.std.specs.Prelude.{All, Option, None, Some, ◌&&◌, ◌*◌, ◌+◌, ◌⊎◌, is_none, is_some, MatchBool}
+use Rattle.std.specs.Prelude.{All, Option, None, Some, Ok, ◌&&◌, ◌*◌, ◌+◌, ◌⊎◌, not, codes, nat_eq, is_none, is_some, IsTrue, MatchBool}
 use Rattle.std.specs.Char.{digit_value, is_ascii, is_digit}
 use Rattle.std.specs.List.{list_all, list_any}
 use Rattle.std.specs.Str.{bytes_eq, IsAscii, IsNotAscii}
-use Rattle.std.proofs.lemmas.Bool.{eq-eqb, eqb-true, ne_eqb, lt-ltb, le-ltb}
+use Rattle.std.specs.Cmp.Lexicographic.{pointwise}
+use Rattle.std.specs.Cmp.Derive.{both_true}
+use Rattle.std.proofs.lemmas.Bool.{eq-eqb, eqb-true, ne_eqb, lt-ltb, le-ltb, le-leb, cond-true}
 use Rattle.std.proofs.lemmas.List.Elements.{All-nil, All-cons, All-head, All-tail}
-use Rattle.memchr.specs.Find.{IsFirstByte, is_byte}
+use Rattle.std.proofs.lemmas.Str.{IsUtf8-from_ascii, is_utf8-from_IsUtf8}
+use Rattle.memchr.specs.Find.{IsFirstByte, is_byte, is_byte3}
 use Rattle.percent_encoding.specs.Percent.{percent_decode}
-use Rattle.fx_item.specs.Name.{has_byte}
+use Rattle.fx_item.specs.Name.{has_byte, is_name}
 use Rattle.fx_script.specs.Cut.{onto_first, cut}
+use Rattle.fx_script.specs.Word.{if_name, name_of}
 use Rattle.fx_script.proofs.Cuts.{cut_at, cut_whole}
 
 -- the first piece ends where the separator is found
@@ -107,3 +111,29 @@ ascii_by false text one = one_not text one.0 one.1
 pub plain_text : (text : List ℕ) (found : Option ℕ) → IsFirstByte (is_byte 37) text found → is_none found ≡ true → text ≡ percent_decode text
 plain_text text (Some i) found e = absurd (cc)
 plain_text text None none e = decoded_same text (lacks 37 text none)
+
+has_not : (byte : ℕ) (text : List ℕ) → Lacks byte text → has_byte byte text ≡ false
+has_not byte [] none = refl
+has_not byte (b ∷ bs) none = ap (λ t. t || has_byte byte bs) (first byte b bs none) ∙ has_not byte bs (later byte b bs none)
+
+-- none of the three bytes is in the text
+lacks_of_three : (x y z : ℕ) (text : List ℕ) (byte : ℕ) → is_byte3 x y z byte ≡ true → IsFirstByte (is_byte3 x y z) text None → Lacks byte text
+lacks_of_three x y z text byte one none k below same = none k (omega arith) below (ap (is_byte3 x y z) same ∙ one)
+
+pub ascii_is : (answer : Bool) (text : List ℕ) → MatchBool answer (IsAscii text) (IsNotAscii text) → IsTrue answer → IsAscii text
+ascii_is true text all h = all
+ascii_is false text one h = absurd (cc)
+
+-- a name of ASCII without `%` stands for itself
+pub plain_name : (text : List ℕ) (found : Option ℕ) → 0 < length text → length text ≤ 255
+    → pointwise nat_eq text (codes ".") ≡ false → pointwise nat_eq text (codes "..") ≡ false
+    → IsFirstByte (is_byte3 37 47 0) text found → is_some found ≡ false → IsAscii text → name_of text ≡ Ok text
+plain_name text (Some i) some few dot dots at e ascii = absurd (cc)
+plain_name text None some few dot dots none e ascii =
+    let slash = has_not 47 text (lacks_of_three 37 47 0 text 47 refl none) in
+    let nul = has_not 0 text (lacks_of_three 37 47 0 text 0 refl none) in
+    let utf8 = is_utf8-from_IsUtf8 text (IsUtf8-from_ascii text ascii) in
+    let size = both_true (lt-ltb 0 (length text) some) (le-leb (length text) 255 few) in
+    let bytes = both_true (both_true size (ap not slash)) (ap not nul) in
+    let named : is_name text ≡ true = both_true (both_true (both_true bytes (ap not dot)) (ap not dots)) utf8 in
+    ap if_name (sym (decoded_same text (lacks_of_three 37 47 0 text 37 refl none))) ∙ cond-true _ _ _ named

@@ -5,4 +5,5 @@ pub mod Names
 pub mod Numbers
 pub mod Prints
 pub mod Scripts
+pub mod Rules
 pub mod Utf8

@@ -14,9 +14,9 @@ use Rattle.std.proofs.lemmas.List.Folds.{list_all-append}
 use Rattle.std.proofs.lemmas.Fmt.{decimal_nonempty, first_decimal, digits_decimal, digits_value-decimal, decimal_digit}
 use Rattle.percent_encoding.specs.Percent.{percent_decode}
 use Rattle.fx_item.specs.Name.{is_name}
-use Rattle.fx_plain.specs.declared.step.Step.TheVariants.{Mkdir, Create, Write, Read}
+use Rattle.fx_plain.specs.declared.step.Step.TheVariants.{Mkdir, Create, Write, Read, List as ListStep, Stat as StatStep}
 use Rattle.fx_script.specs.declared.line.Line.{Line}
-use Rattle.fx_script.specs.declared.line.Line.TheVariants.{Single}
+use Rattle.fx_script.specs.declared.line.Line.TheVariants.{Single, Sync}
 use Rattle.fx_script.specs.Cut.{onto_first, cut, words_of}
 use Rattle.fx_script.specs.Word.{is_decimal, number_of, max_number, text_of, if_name, name_of, names_of, few_names_of, below_root, path_of}
 use Rattle.fx_script.specs.Line.{line_of_words, line_of}
@@ -229,8 +229,19 @@ read_printed path at count h small few =
     line_spaced (codes "read") (path_text path ∷ decimal at ∷ decimal count ∷ []) (refl, (path_word path h, (decimal_word at small, (decimal_word count few, tt))))
     ∙ rw (path_not_semicolon path, decimal_not_semicolon at small, decimal_not_semicolon count few, path_printed path h, number_printed at small, number_printed count few) refl
 
+list_printed : (path : List (List ℕ)) → IsPath path → line_of (spaced (step_words (ListStep path))) ≡ Ok (Single (ListStep path))
+list_printed path h =
+    line_spaced (codes "list") (path_text path ∷ []) (refl, (path_word path h, tt)) ∙ rw (path_not_semicolon path, path_printed path h) refl
+
+stat_printed : (path : List (List ℕ)) → IsPath path → line_of (spaced (step_words (StatStep path))) ≡ Ok (Single (StatStep path))
+stat_printed path h =
+    line_spaced (codes "stat") (path_text path ∷ []) (refl, (path_word path h, tt)) ∙ rw (path_not_semicolon path, path_printed path h) refl
+
 pub line_printed : (line : Line) → KeepsRules line → line_of (line_text line) ≡ Ok line
 line_printed (Single (Mkdir path)) h = mkdir_printed path h
 line_printed (Single (Create path)) h = create_printed path h
 line_printed (Single (Write path at text)) h = write_printed path at text h.0 h.1 h.2
 line_printed (Single (Read path at count)) h = read_printed path at count h.0 h.1 h.2
+line_printed (Single (ListStep path)) h = list_printed path h
+line_printed (Single (StatStep path)) h = stat_printed path h
+line_printed Sync h = refl

@@ -5,9 +5,9 @@ use Rattle.std.specs.Borrow.{Bor}
 use Rattle.std.specs.Str.{bytes_eq}
 use Rattle.std.specs.Char.{is_ascii}
 use Rattle.fx_plain.specs.declared.step.Step.{Step}
-use Rattle.fx_plain.specs.declared.step.Step.TheVariants.{Mkdir, Create, Write, Read}
+use Rattle.fx_plain.specs.declared.step.Step.TheVariants.{Mkdir, Create, Write, Read, List as ListStep, Stat as StatStep}
 use Rattle.fx_script.specs.declared.line.Line.{Line}
-use Rattle.fx_script.specs.declared.line.Line.TheVariants.{Single}
+use Rattle.fx_script.specs.declared.line.Line.TheVariants.{Single, Sync}
 use Rattle.fx_script.specs.declared.fault.LineFault.{LineFault}
 use Rattle.fx_script.specs.declared.fault.LineFault.TheVariants as faults
 use Rattle.fx_script.specs.Cut.{is_blank, words_of}
@@ -62,6 +62,14 @@ read_of words =
     number_of count >>= λ count.
     Ok (Read path at count)
 
+-- `list PATH`
+abbrev pub list_of : List (List ℕ) → Result Step LineFault
+list_of words = only_word words >>= λ word. path_of word >>= λ path. Ok (ListStep path)
+
+-- `stat PATH`
+abbrev pub stat_of : List (List ℕ) → Result Step LineFault
+stat_of words = only_word words >>= λ word. path_of word >>= λ path. Ok (StatStep path)
+
 -- the step that its first word names
 abbrev pub step_of : List (List ℕ) → Result Step LineFault
 step_of [] = Err faults.UnknownWord
@@ -70,18 +78,32 @@ step_of (word ∷ words) =
     else if bytes_eq word (codes "create") then create_of words
     else if bytes_eq word (codes "write") then write_of words
     else if bytes_eq word (codes "read") then read_of words
+    else if bytes_eq word (codes "list") then list_of words
+    else if bytes_eq word (codes "stat") then stat_of words
     else Err faults.UnknownWord
+
+-- `sync`, alone
+abbrev pub sync_of : List (List ℕ) → Result Line LineFault
+sync_of [] = Ok Sync
+sync_of (word ∷ words) = Err faults.WordCount
+
+-- a line that is no group: `sync`, or one step
+abbrev pub single_of : List (List ℕ) → Result Line LineFault
+single_of [] = Err faults.Empty
+single_of (word ∷ words) =
+    if bytes_eq word (codes "sync") then sync_of words
+    else step_of (word ∷ words) >>= λ step. Ok (Single step)
 
 -- whether a word is the `;` that parts the steps of a group
 abbrev pub has_semicolon : List (List ℕ) → Bool
 has_semicolon words = list_any (λ word. bytes_eq word (codes ";")) words
 
--- what the words of a line say, or their first fault: that there are none, a group, then those of the step
+-- what the words of a line say, or their first fault: that there are none, a group, then those of `sync` or of the step
 abbrev pub line_of_words : List (List ℕ) → Result Line LineFault
 line_of_words words =
     if is_blank words then Err faults.Empty
     else if has_semicolon words then Err faults.UnknownWord
-    else step_of words >>= λ step. Ok (Single step)
+    else single_of words
 
 -- what a line says, or its first fault
 abbrev pub line_of : List ℕ → Result Line LineFault

@@ -5,9 +5,9 @@ use Rattle.std.specs.Fmt.{decimal}
 use Rattle.fx_item.specs.Name.{is_name}
 use Rattle.fx_plain.specs.declared.path.TheConstants.{MAX_NAMES}
 use Rattle.fx_plain.specs.declared.step.Step.{Step}
-use Rattle.fx_plain.specs.declared.step.Step.TheVariants.{Mkdir, Create, Write, Read}
+use Rattle.fx_plain.specs.declared.step.Step.TheVariants.{Mkdir, Create, Write, Read, List as ListStep, Stat as StatStep}
 use Rattle.fx_script.specs.declared.line.Line.{Line}
-use Rattle.fx_script.specs.declared.line.Line.TheVariants.{Single}
+use Rattle.fx_script.specs.declared.line.Line.TheVariants.{Single, Sync}
 use Rattle.fx_script.specs.Escape.{escaped}
 use Rattle.fx_script.specs.Word.{max_number}
 
@@ -25,9 +25,12 @@ step_words (Mkdir path) = codes "mkdir" ∷ path_text path ∷ []
 step_words (Create path) = codes "create" ∷ path_text path ∷ []
 step_words (Write path at text) = codes "write" ∷ path_text path ∷ decimal at ∷ escaped text ∷ []
 step_words (Read path at count) = codes "read" ∷ path_text path ∷ decimal at ∷ decimal count ∷ []
+step_words (ListStep path) = codes "list" ∷ path_text path ∷ []
+step_words (StatStep path) = codes "stat" ∷ path_text path ∷ []
 
 abbrev pub line_words : Line → List (List ℕ)
 line_words (Single step) = step_words step
+line_words Sync = codes "sync" ∷ []
 
 -- the words with one space between them
 abbrev pub spaced : List (List ℕ) → List ℕ
@@ -53,7 +56,10 @@ StepKeepsRules (Mkdir path) = IsPath path
 StepKeepsRules (Create path) = IsPath path
 StepKeepsRules (Write path at text) = IsPath path × (at ≤ max_number) × IsText text
 StepKeepsRules (Read path at count) = IsPath path × (at ≤ max_number) × (count ≤ max_number)
+StepKeepsRules (ListStep path) = IsPath path
+StepKeepsRules (StatStep path) = IsPath path
 
 -- a line that the grammar has: its paths, numbers and texts are those of words
 abbrev pub KeepsRules : Line → Type 0
 KeepsRules (Single step) = StepKeepsRules step
+KeepsRules Sync = Unit {0}

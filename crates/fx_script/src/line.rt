@@ -1,8 +1,9 @@
 //! What a line says.
-ghost use Rattle.std.specs.Prelude.{◌≡◌};
+ghost use Rattle.std.specs.Prelude.{◌≡◌, IfOk};
 ghost use Rattle.std.specs.List.{list_all};
 ghost use Rattle.std.specs.Char.{is_ascii};
-ghost use Rattle.fx_script.specs.Line.{IsUnlessMemory, IsLine, has_semicolon, line_of, line_of_words};
+ghost use Rattle.fx_script.specs.Print.{KeepsRules};
+ghost use Rattle.fx_script.specs.Line.{IsUnlessMemory, IsLine, has_semicolon, sync_of, single_of, line_of, line_of_words};
 
 use crate::fault::LineFault;
 use crate::pieces::Pieces;
@@ -15,6 +16,8 @@ use std::alloc::Global;
 pub enum Line {
     /// One step.
     Single(Step),
+    /// All that was done before is made durable.
+    Sync,
 }
 
 /// Whether each byte is ASCII.
@@ -31,6 +34,31 @@ fn has_semicolon(mut words: Pieces<'_>) -> bool
     words.may_have(b';') && words.any(|word| word == b";".as_slice())
 }
 
+/// What the words after `sync` say.
+fn read_sync(mut words: Pieces<'_>) -> Result<Line, LineFault>
+    ensures { result ≡ sync_of words.entry }
+{
+    match words.next() {
+        None => Ok(Line::Sync),
+        Some(_) => Err(LineFault::WordCount),
+    }
+}
+
+/// What the words of a line say that is no group.
+fn read_single(alloc: Global, words: Pieces<'_>) -> Result<Line, LineFault>
+    ensures { IsUnlessMemory result (single_of words.entry) }
+{
+    let mut rest = words.again();
+    let Some(word) = rest.next() else {
+        return Err(LineFault::Empty);
+    };
+    if word == b"sync".as_slice() {
+        return read_sync(rest);
+    }
+    let step = read_step(alloc, words)?;
+    Ok(Line::Single(step))
+}
+
 /// What the words of a line say.
 pub(crate) fn read_words(alloc: Global, words: Pieces<'_>) -> Result<Line, LineFault>
     ensures { IsUnlessMemory result (line_of_words words.entry) }
@@ -41,14 +69,14 @@ pub(crate) fn read_words(alloc: Global, words: Pieces<'_>) -> Result<Line, LineF
     if has_semicolon(words.again()) {
         return Err(LineFault::UnknownWord);
     }
-    let step = read_step(alloc, words)?;
-    Ok(Line::Single(step))
+    read_single(alloc, words)
 }
 
 /// What a line says, its line feed not among the bytes. Fails with the first fault, or where memory runs out.
 /// Costs the bytes of the line.
 pub fn read_line(alloc: Global, bytes: &[u8]) -> Result<Line, LineFault>
     ensures line { IsLine result (line_of bytes.now) }
+    ensures rules { IfOk result KeepsRules }
 {
     if !is_ascii(bytes) {
         return Err(LineFault::NotAscii);

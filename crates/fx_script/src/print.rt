@@ -48,6 +48,14 @@ fn push_step(out: &mut String, step: &Step) -> Result<(), AllocError>
             push_path(out, path)?;
             write!(out, " {at} {count}")
         }
+        Step::List { path } => {
+            out.push_str("list ")?;
+            push_path(out, path)
+        }
+        Step::Stat { path } => {
+            out.push_str("stat ")?;
+            push_path(out, path)
+        }
     }
 }
 
@@ -60,6 +68,7 @@ pub fn print_line(alloc: Global, line: &Line) -> Result<Bytes, AllocError>
     let mut text = String::new(alloc);
     match line {
         Line::Single(step) => push_step(&mut text, step)?,
+        Line::Sync => text.push_str("sync")?,
     }
     Ok(Bytes::new(text.into_bytes()))
 }

@@ -1,8 +1,9 @@
 //! What a script says, line by line.
-ghost use Rattle.std.specs.Prelude.{◌≡◌, ◌≢◌, ℕ, Err};
+ghost use Rattle.std.specs.Prelude.{◌≡◌, ◌≢◌, ℕ, All, Err, IfOk};
 ghost use Rattle.fx_script.specs.Line.{IsUnlessMemory};
 ghost use Rattle.fx_script.specs.declared.script.ScriptFault.TheVariants.{BadLine, OutOfMemory};
 ghost use Rattle.fx_script.specs.declared.fault.LineFault.TheVariants as line_faults;
+ghost use Rattle.fx_script.specs.Print.{KeepsRules};
 ghost use Rattle.fx_script.specs.Script.{AreTasks, client_of, task, sent_task, task_of_words, task_of, script_of};
 
 use crate::fault::LineFault;
@@ -146,6 +147,9 @@ fn read_numbered(alloc: Global, many: bool, number: u32, line: &[u8]) -> Result<
 pub fn read_script(alloc: Global, bytes: &[u8], many: bool) -> Result<Tasks, ScriptFault>
     ensures tasks { AreTasks result (script_of many bytes.now) }
     ensures memory { (number : ℕ) → result ≢ Err (BadLine number line_faults.OutOfMemory) }
+
+    // Each line is one that the grammar has.
+    ensures rules { IfOk result (All (λ task. KeepsRules task.line)) }
 {
     let mut items = Vec::new(alloc);
     let mut number = 1;

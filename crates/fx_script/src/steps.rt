@@ -1,6 +1,6 @@
 //! The steps that a line may say.
 ghost use Rattle.std.specs.Prelude.{◌≡◌};
-ghost use Rattle.fx_script.specs.Line.{IsUnlessMemory, mkdir_of, create_of, write_of, read_of, step_of, only_word, three_words, seen_word, seen_words};
+ghost use Rattle.fx_script.specs.Line.{IsUnlessMemory, mkdir_of, create_of, write_of, read_of, list_of, stat_of, step_of, only_word, three_words, seen_word, seen_words};
 
 use crate::fault::LineFault;
 use crate::pieces::Pieces;
@@ -68,6 +68,24 @@ fn read_read(alloc: Global, words: Pieces<'_>) -> Result<Step, LineFault>
     Ok(Step::Read { path, at, count })
 }
 
+/// What the words after `list` say.
+fn read_list(alloc: Global, words: Pieces<'_>) -> Result<Step, LineFault>
+    ensures { IsUnlessMemory result (list_of words.entry) }
+{
+    let path = only_word(words)?;
+    let path = read_path(alloc, path)?;
+    Ok(Step::List { path })
+}
+
+/// What the words after `stat` say.
+fn read_stat(alloc: Global, words: Pieces<'_>) -> Result<Step, LineFault>
+    ensures { IsUnlessMemory result (stat_of words.entry) }
+{
+    let path = only_word(words)?;
+    let path = read_path(alloc, path)?;
+    Ok(Step::Stat { path })
+}
+
 /// The step that the words say.
 pub fn read_step(alloc: Global, mut words: Pieces<'_>) -> Result<Step, LineFault>
     ensures { IsUnlessMemory result (step_of words.entry) }
@@ -86,6 +104,12 @@ pub fn read_step(alloc: Global, mut words: Pieces<'_>) -> Result<Step, LineFault
     }
     if word == b"read".as_slice() {
         return read_read(alloc, words);
+    }
+    if word == b"list".as_slice() {
+        return read_list(alloc, words);
+    }
+    if word == b"stat".as_slice() {
+        return read_stat(alloc, words);
     }
     Err(LineFault::UnknownWord)
 }

@@ -31,9 +31,17 @@ write /v/a 0 %00%20%FF => write /v/a 0 %00%20%FF
 read /v/a 0 0 => read /v/a 0 0
 read /v/a 0 1048577 => read /v/a 0 1048577
 read / 10 4294967295 => read / 10 4294967295
+list / => list /
+list /v/%77 => list /v/w
+list /v;w => list /v%3Bw
+stat / => stat /
+stat /v/w => stat /v/w
+stat /%C3%A9 => stat /%C3%A9
+sync => sync
  => empty
 é => notascii
 mkdir /é => notascii
+sync é => notascii
 rm é => notascii
 ; é => notascii
 mkdir v é => notascii
@@ -52,11 +60,14 @@ trunc /v/a 1 => unknownword
 mv /v /w => unknownword
 setattr /v a b => unknownword
 delattr /v a => unknownword
-list / => unknownword
-stat / => unknownword
 attr /v a => unknownword
-sync => unknownword
 compact => unknownword
+list /v ; sync => unknownword
+sync ; list /v => unknownword
+sync ; => unknownword
+Sync => unknownword
+syncs => unknownword
+ sync => unknownword
 mkdir => wordcount
 mkdir /v  => wordcount
 mkdir  /v => wordcount
@@ -69,6 +80,14 @@ write /v/a 0 x y => wordcount
 write v 01 => wordcount
 read /v/a 0 => wordcount
 read /v/a 0 1 2 => wordcount
+list => wordcount
+list v w => wordcount
+list /v  => wordcount
+stat => wordcount
+stat /v /w => wordcount
+sync x => wordcount
+sync / => wordcount
+sync  => wordcount
 mkdir  => badpath
 mkdir v => badpath
 mkdir // => badpath
@@ -89,6 +108,11 @@ write  0 x => badpath
 write v 01  => badpath
 write v 0  => badpath
 read v 01 01 => badpath
+list v => badpath
+list  => badpath
+list /v/ => badpath
+stat v => badpath
+stat /v/.. => badpath
 write /v/a 4294967296 x => badnumber
 write /v/a 99999999999999999999999999 x => badnumber
 write /v/a  x => badnumber
@@ -105,7 +129,7 @@ read /v/a 01 4294967296 => badnumber
 write /v/a 0  => badtext";
 
 /// The fault of a line, or how it is printed.
-fn told(alloc: Global, line: &[u8]) -> Result<Bytes, AllocError> {
+fn told_of(alloc: Global, line: &[u8]) -> Result<Bytes, AllocError> {
     match read_line(alloc, line) {
         Ok(line) => print_line(alloc, &line),
         Err(fault) => Ok(Bytes::new(Vec::from_slice(alloc, fault.word().as_bytes())?)),
@@ -117,11 +141,15 @@ fn lines_are_read_and_printed(rt: HostRuntime) -> Result<(), Fail> {
     let mut count = 0u64;
     for row in LINES.lines() {
         let (line, wanted) = row.split_once(" => ").ok_or("a row without an arrow")?;
-        let told = told(rt.alloc(), line.as_bytes())?;
+        let told = told_of(rt.alloc(), line.as_bytes())?;
         assert_eq!(rt; told.as_slice(), wanted.as_bytes(), "at {line}");
+        if read_line(rt.alloc(), line.as_bytes()).is_ok() {
+            let again = told_of(rt.alloc(), wanted.as_bytes())?;
+            assert_eq!(rt; again.as_slice(), wanted.as_bytes(), "printed at {line}");
+        }
         count = count.saturating_add(1);
     }
-    assert_eq!(rt; count, 96);
+    assert_eq!(rt; count, 120);
     Ok(())
 }
 
@@ -152,15 +180,18 @@ const SCRIPTS_OF_ONE: &str = " =>
 mkdir /v => 1 1 mkdir /v|
 mkdir /v$ => 1 1 mkdir /v|
 mkdir /v$read / 0 1 => 1 1 mkdir /v|1 2 read / 0 1|
+sync$list /$stat /v$ => 1 1 sync|1 2 list /|1 3 stat /v|
 $ => 1 empty
 mkdir /v$$ => 2 empty
 mkdir /v$$mkdir v => 2 empty
 mkdir /v$mkdir v$foo$é => 2 badpath
+sync$sync x => 2 wordcount
 1 mkdir /v => 1 unknownword";
 
 /// The same of many clients.
 const SCRIPTS_OF_MANY: &str = " => 
 1 mkdir /v => 1 1 mkdir /v|
+3 sync$16 list /v => 3 1 sync|16 2 list /v|
 16 mkdir /v$2 create /v/a$ => 16 1 mkdir /v|2 2 create /v/a|
 $ => 1 empty
 1 => 1 empty
@@ -176,10 +207,13 @@ mkdir /v => 1 badclient
  mkdir /v => 1 badclient
 17 ; => 1 badclient
 17 rm => 1 badclient
+sync => 1 badclient
+17 sync x => 1 badclient
 17 é => 1 notascii
 1  mkdir /v => 1 unknownword
 1 ; => 1 unknownword
 1 mkdir /v$2 mkdir => 2 wordcount
+1 sync 1 => 1 wordcount
 1 write v 01  => 1 badpath";
 
 /// Tells each script of a table, and says how many there are.
@@ -207,7 +241,7 @@ fn expect_scripts(
 fn scripts_are_read_up_to_the_first_wrong_line(rt: HostRuntime) -> Result<(), Fail> {
     let one = expect_scripts(&rt, false, SCRIPTS_OF_ONE)?;
     let many = expect_scripts(&rt, true, SCRIPTS_OF_MANY)?;
-    assert_eq!(rt; (one, many), (9, 22));
+    assert_eq!(rt; (one, many), (11, 26));
     Ok(())
 }
 

@@ -1,5 +1,5 @@
 //! What one word of a line stands for.
-ghost use Rattle.std.specs.Prelude.{◌≡◌, IfOk};
+ghost use Rattle.std.specs.Prelude.{◌≡◌, IfOk, Ok, IsTrue};
 ghost use Rattle.std.specs.List.{list_all};
 ghost use Rattle.std.specs.Char.{is_ascii_digit};
 ghost use Rattle.percent_encoding.specs.Percent as percent;
@@ -9,9 +9,9 @@ ghost use Rattle.fx_script.specs.Cut.{cut};
 
 use crate::fault::LineFault;
 use crate::pieces::Pieces;
-use fx_item::{Bytes, Name, is_name};
+use fx_item::{Bytes, MAX_NAME, Name, is_name};
 use fx_plain::{MAX_NAMES, Path};
-use memchr::memchr;
+use memchr::{memchr, memchr3};
 use percent_encoding::percent_decode;
 use std::alloc::{AllocError, Global};
 use std::str;
@@ -69,10 +69,30 @@ pub fn read_text(alloc: Global, word: &[u8]) -> Result<Bytes, LineFault>
     Ok(Bytes::new(bytes))
 }
 
+/// Whether the piece is one of the names that stand for themselves: of ASCII, without `%`.
+fn is_plain_name(piece: &[u8]) -> bool
+    ensures { IsTrue result → name_of piece.now ≡ Ok piece.now }
+{
+    if piece.is_empty() || piece.len() > MAX_NAME {
+        return false;
+    }
+    if piece == b".".as_slice() || piece == b"..".as_slice() {
+        return false;
+    }
+    if memchr3(b'%', b'/', 0, piece).is_some() {
+        return false;
+    }
+    piece.is_ascii()
+}
+
 /// The name that a piece of a path stands for.
 fn read_name(alloc: Global, piece: &[u8]) -> Result<Name, LineFault>
     ensures { IsUnlessMemory result (name_of piece.now) }
 {
+    if is_plain_name(piece) {
+        let letters = Vec::from_slice(alloc, piece)?;
+        return Ok(Name::new(letters));
+    }
     let letters = decode(alloc, piece)?;
     if !is_name(letters.as_slice()) {
         return Err(LineFault::BadPath);

@@ -1,5 +1,8 @@
-use Rattle.std.proofs.Common.{sym, ap, ◌∙◌, arith, List, ℕ}
-use Rattle.fx_script.specs.Script.{task_of, tasks_from}
+use Rattle.std.proofs.Common.{◌≡◌, sym, ap, ◌∙◌, arith, List, ℕ}
+use Rattle.std.specs.Prelude.{Ok}
+use Rattle.std.proofs.lemmas.List.{append-nil}
+use Rattle.fx_script.specs.Script.{script_of, task_of, tasks_from}
+use Rattle.fx_script.proofs.Rules.{script_rules}
 use Rattle.fx_script.proofs.Scripts.{after_tasks, read_more, is_read, is_numbered}
 use Rattle.fx_script.proofs.script.read_script.Goals as goal
 
@@ -17,3 +20,12 @@ loop-line-preserved c =
           );
       few = omega (arith, is_numbered many loop.number c.in-Some.line.now c.in-Ok.task read);
     }
+
+pub returns-clause-rules : goal.returns-clause-rules
+returns-clause-rules c =
+    let loop = c.loop-line in
+    let told : script_of c.args.many c.args.bytes.now ≡ Ok loop.items.items =
+    sym loop.invariant.tasks
+    ∙ ap (λ (lines : List (List ℕ)). after_tasks loop.items.items (tasks_from c.args.many loop.number lines)) c.in-None.ensures.steps.0
+    ∙ ap Ok (append-nil loop.items.items) in
+    script_rules c.args.many c.args.bytes.now loop.items.items told

@@ -1,0 +1,273 @@
+-- A line that is read keeps the rules of the grammar.
+use Rattle.std.proofs.Common.{◌≡◌, ℕ, ◌+◌, ◌<◌, ◌≤◌, ◌&&◌, ◌==◌, Bool, true, false, List, [], ◌∷◌, refl, sym, subst, length, arith, inl, inr}
+use Rattle.std.specs.Prelude.{Result, Ok, Err, All, IfOk, if◌then◌else◌, nat_le, nat_lt, codes}
+use Rattle.std.specs.List.{list_all, AllByRecursion}
+use Rattle.std.specs.Str.{bytes_eq}
+use Rattle.std.specs.Char.{is_ascii}
+use Rattle.std.specs.Str.Parse.{digits_value}
+use Rattle.std.proofs.lemmas.Bool.{and_parts, leb-true, ltb-true}
+use Rattle.std.proofs.lemmas.List.Elements.{All-from_recursion, All-cons, All-nil, All-head, All-tail}
+use Rattle.percent_encoding.specs.Percent.{percent_decode}
+use Rattle.percent_encoding.proofs.PercentLemmas.{All-percent_decode, length-percent_decode}
+use Rattle.fx_item.specs.Name.{is_name}
+use Rattle.fx_plain.specs.declared.path.TheConstants.{MAX_NAMES}
+use Rattle.fx_plain.specs.declared.step.Step.{Step}
+use Rattle.fx_plain.specs.declared.step.Step.TheVariants.{Mkdir, Create, Write, Read, List as ListStep, Stat as StatStep}
+use Rattle.fx_script.specs.declared.line.Line.{Line}
+use Rattle.fx_script.specs.declared.line.Line.TheVariants.{Single, Sync}
+use Rattle.fx_script.specs.declared.fault.LineFault.{LineFault}
+use Rattle.fx_script.specs.declared.fault.LineFault.TheVariants as faults
+use Rattle.fx_script.specs.declared.script.Task.{Task}
+use Rattle.fx_script.specs.declared.script.ScriptFault.{ScriptFault}
+use Rattle.fx_script.specs.declared.script.TheConstants.{MAX_LINES}
+use Rattle.fx_script.specs.Cut.{onto_first, cut, is_blank, words_of, lines_of}
+use Rattle.fx_script.specs.Word.{is_decimal, number_of, max_number, text_of, name_of, in_front, names_of, few_names_of, below_root, path_of}
+use Rattle.fx_script.specs.Line.{IsUnlessMemory, ◌>>=◌, only_word, three_words, mkdir_of, create_of, write_of, read_of, list_of, stat_of, step_of, sync_of, single_of, has_semicolon, line_of_words, line_of}
+use Rattle.fx_script.specs.Print.{IsPath, IsText, StepKeepsRules, KeepsRules}
+use Rattle.fx_script.specs.Script.{client_of, task, sent_task, task_of_words, task_of, before_tasks, tasks_from, script_of}
+use Rattle.fx_script.proofs.Utf8.{IsByte, AreBytes}
+
+-- ---- what is made of a value
+
+pub record IsMade {A B : Type 0} (r : Result A LineFault) (f : A → Result B LineFault) (y : B) : Type 0 where
+  pub x : A
+  pub is : r ≡ Ok x
+  pub gives : f x ≡ Ok y
+
+made_of : {A B : Type 0} (r : Result A LineFault) (f : A → Result B LineFault) (y : B) → (r >>= f) ≡ Ok y → IsMade r f y
+made_of (Ok x) f y e = record { x = x; is = refl; gives = e }
+made_of (Err fault) f y e = absurd (cc)
+
+-- a test that gives a value was true
+if_ok : {A : Type 0} (t : Bool) (r : Result A LineFault) (fault : LineFault) (y : A) → (if t then r else Err fault) ≡ Ok y → (t ≡ true) × (r ≡ Ok y)
+if_ok true r fault y e = (refl, e)
+if_ok false r fault y e = absurd (cc)
+
+unless_ok : {A : Type 0} (t : Bool) (r : Result A LineFault) (fault : LineFault) (y : A) → (if t then Err fault else r) ≡ Ok y → r ≡ Ok y
+unless_ok true r fault y e = absurd (cc)
+unless_ok false r fault y e = e
+
+-- ---- words
+
+number_small : (word : List ℕ) (n : ℕ) → number_of word ≡ Ok n → n ≤ max_number
+number_small word n e =
+    let value : ℕ = digits_value 10 word in
+    let told = if_ok (is_decimal word && nat_le value max_number) (Ok value) faults.BadNumber n e in
+    let parts = and_parts (is_decimal word) (nat_le value max_number) told.0 in
+    let same : value ≡ n = cc told.1 in
+    omega (arith, same, leb-true value max_number parts.1)
+
+name_named : (piece name : List ℕ) → name_of piece ≡ Ok name → is_name name ≡ true
+name_named piece name e =
+    let told = if_ok (is_name (percent_decode piece)) (Ok (percent_decode piece)) faults.BadPath name e in
+    let same : percent_decode piece ≡ name = cc told.1 in
+    subst (λ (text : List ℕ). is_name text ≡ true) same told.0
+
+-- so many names, of which each may name a node
+pub record AreNames (count : ℕ) (names : List (List ℕ)) : Type 0 where
+  pub long : length names ≡ count
+  pub each : AllByRecursion (λ name. is_name name ≡ true) names
+
+in_front_named : (count : ℕ) (first : Result (List ℕ) LineFault) (rest : Result (List (List ℕ)) LineFault) (names : List (List ℕ))
+    → ((name : List ℕ) → first ≡ Ok name → is_name name ≡ true) → ((others : List (List ℕ)) → rest ≡ Ok others → AreNames count others)
+    → in_front first rest ≡ Ok names → AreNames (count + 1) names
+in_front_named count (Err fault) rest names one more e = absurd (cc)
+in_front_named count (Ok name) (Err fault) names one more e = absurd (cc)
+in_front_named count (Ok name) (Ok others) names one more e =
+    let same : name ∷ others ≡ names = cc in
+    let k = more others refl in
+    subst (AreNames (count + 1)) same (record { long = omega (arith, k.long); each = (one name refl, k.each) })
+
+names_named : (pieces names : List (List ℕ)) → names_of pieces ≡ Ok names → AreNames (length pieces) names
+names_named [] names e =
+    let same : [] ≡ names = cc in
+    subst (AreNames 0) same (record { long = refl; each = tt })
+names_named (piece ∷ pieces) names e =
+    let k = in_front_named (length pieces) (name_of piece) (names_of pieces) names (λ name one. name_named piece name one) (λ others more. names_named pieces others more) e in
+    record { long = omega (arith, k.long); each = k.each }
+
+few_named : (pieces names : List (List ℕ)) → few_names_of pieces ≡ Ok names → IsPath names
+few_named pieces names e =
+    let told = if_ok (nat_le (length pieces) MAX_NAMES) (names_of pieces) faults.BadPath names e in
+    let k = names_named pieces names told.1 in
+    record { few = omega (arith, k.long, leb-true (length pieces) MAX_NAMES told.0); names = k.each }
+
+below_named : (bytes : List ℕ) (names : List (List ℕ)) → below_root bytes ≡ Ok names → IsPath names
+below_named [] names e =
+    let same : [] ≡ names = cc in
+    subst IsPath same (record { few = omega arith; names = tt })
+below_named (b ∷ bs) names e = few_named (cut 47 (b ∷ bs)) names e
+
+path_named : (word : List ℕ) (path : List (List ℕ)) → path_of word ≡ Ok path → IsPath path
+path_named [] path e = absurd (cc)
+path_named (b ∷ bs) path e = below_named bs path (if_ok (b == 47) (below_root bs) faults.BadPath path e).1
+
+by_recursion : (bs : List ℕ) → All IsByte bs → AreBytes bs
+by_recursion [] all = tt
+by_recursion (b ∷ bs) all = (All-head IsByte b bs all, by_recursion bs (All-tail IsByte b bs all))
+
+text_bytes : (word text : List ℕ) → AreBytes word → text_of word ≡ Ok text → IsText text
+text_bytes [] text h e = absurd (cc)
+text_bytes (b ∷ bs) text h e =
+    let same : percent_decode (b ∷ bs) ≡ text = cc in
+    subst IsText same (record {
+      some = omega (arith, (length-percent_decode (b ∷ bs)).1);
+      bytes = by_recursion (percent_decode (b ∷ bs)) (All-percent_decode (b ∷ bs) (All-from_recursion IsByte (b ∷ bs) h));
+    })
+
+-- ---- the words of a line
+
+abbrev AreWords : List (List ℕ) → Type 0
+AreWords words = AllByRecursion AreBytes words
+
+onto_words : (b : ℕ) (pieces : List (List ℕ)) → b < 256 → AreWords pieces → AreWords (onto_first b pieces)
+onto_words b [] small h = ((small, tt), tt)
+onto_words b (piece ∷ pieces) small h = ((small, h.0), h.1)
+
+-- the pieces of a line of ASCII are bytes
+cut_words : (at : ℕ) (line : List ℕ) → list_all is_ascii line ≡ true → AreWords (cut at line)
+cut_words at [] h = (tt, tt)
+cut_words at (b ∷ bs) h = by (b == at) (cut_words at bs parts.1)
+  where
+    parts : (is_ascii b ≡ true) × (list_all is_ascii bs ≡ true)
+    parts = and_parts (is_ascii b) (list_all is_ascii bs) h
+
+    by : (t : Bool) → AreWords (cut at bs) → AreWords (if t then [] ∷ cut at bs else onto_first b (cut at bs))
+    by true k = (tt, k)
+    by false k = onto_words b (cut at bs) (let small : b < 128 = ltb-true b 128 parts.0 in omega arith) k
+
+-- ---- steps
+
+third_word : (words : List (List ℕ)) (found : List ℕ × List ℕ × List ℕ) → AreWords words → three_words words ≡ Ok found → AreBytes found.2
+third_word [] found h e = absurd (cc)
+third_word (first ∷ []) found h e = absurd (cc)
+third_word (first ∷ second ∷ []) found h e = absurd (cc)
+third_word (first ∷ second ∷ third ∷ []) found h e =
+    let same : (first, second, third) ≡ found = cc in
+    subst (λ (f : List ℕ × List ℕ × List ℕ). AreBytes f.2) same h.1.1.0
+third_word (first ∷ second ∷ third ∷ fourth ∷ words) found h e = absurd (cc)
+
+-- the step that is answered
+answered : (made step : Step) → (let r : Result Step LineFault = Ok made in r) ≡ Ok step → StepKeepsRules made → StepKeepsRules step
+answered made step e h = let same : made ≡ step = cc in subst StepKeepsRules same h
+
+-- a step whose one word is a path
+path_step : (make : List (List ℕ) → Step) (words : List (List ℕ)) (step : Step) → ((path : List (List ℕ)) → IsPath path → StepKeepsRules (make path))
+    → (only_word words >>= λ word. path_of word >>= λ path. Ok (make path)) ≡ Ok step → StepKeepsRules step
+path_step make words step keeps e =
+    let word = made_of (only_word words) (λ word. path_of word >>= λ path. Ok (make path)) step e in
+    let path = made_of (path_of word.x) (λ path. Ok (make path)) step word.gives in
+    answered (make path.x) step path.gives (keeps path.x (path_named word.x path.x path.is))
+
+write_step : (words : List (List ℕ)) (step : Step) → AreWords words → write_of words ≡ Ok step → StepKeepsRules step
+write_step words step h e =
+    let found = made_of (three_words words) (λ (found : List ℕ × List ℕ × List ℕ). path_of found.0 >>= λ path. number_of found.1 >>= λ at. text_of found.2 >>= λ text. Ok (Write path at text)) step e in
+    let path = made_of (path_of found.x.0) (λ path. number_of found.x.1 >>= λ at. text_of found.x.2 >>= λ text. Ok (Write path at text)) step found.gives in
+    let at = made_of (number_of found.x.1) (λ at. text_of found.x.2 >>= λ text. Ok (Write path.x at text)) step path.gives in
+    let text = made_of (text_of found.x.2) (λ text. Ok (Write path.x at.x text)) step at.gives in
+    answered (Write path.x at.x text.x) step text.gives (path_named found.x.0 path.x path.is, number_small found.x.1 at.x at.is, text_bytes found.x.2 text.x (third_word words found.x h found.is) text.is)
+
+read_step : (words : List (List ℕ)) (step : Step) → read_of words ≡ Ok step → StepKeepsRules step
+read_step words step e =
+    let found = made_of (three_words words) (λ (found : List ℕ × List ℕ × List ℕ). path_of found.0 >>= λ path. number_of found.1 >>= λ at. number_of found.2 >>= λ count. Ok (Read path at count)) step e in
+    let path = made_of (path_of found.x.0) (λ path. number_of found.x.1 >>= λ at. number_of found.x.2 >>= λ count. Ok (Read path at count)) step found.gives in
+    let at = made_of (number_of found.x.1) (λ at. number_of found.x.2 >>= λ count. Ok (Read path.x at count)) step path.gives in
+    let count = made_of (number_of found.x.2) (λ count. Ok (Read path.x at.x count)) step at.gives in
+    answered (Read path.x at.x count.x) step count.gives (path_named found.x.0 path.x path.is, number_small found.x.1 at.x at.is, number_small found.x.2 count.x count.is)
+
+-- one of two, by a test
+either_step : (t : Bool) (r s : Result Step LineFault) (step : Step) → (r ≡ Ok step → StepKeepsRules step) → (s ≡ Ok step → StepKeepsRules step)
+    → (if t then r else s) ≡ Ok step → StepKeepsRules step
+either_step true r s step one other e = one e
+either_step false r s step one other e = other e
+
+step_rules : (words : List (List ℕ)) (step : Step) → AreWords words → step_of words ≡ Ok step → StepKeepsRules step
+step_rules [] step h e = absurd (cc)
+step_rules (word ∷ words) step h e =
+    either_step (bytes_eq word (codes "mkdir")) (mkdir_of words) _ step (path_step Mkdir words step (λ path k. k))
+    (either_step (bytes_eq word (codes "create")) (create_of words) _ step (path_step Create words step (λ path k. k))
+    (either_step (bytes_eq word (codes "write")) (write_of words) _ step (write_step words step h.1)
+    (either_step (bytes_eq word (codes "read")) (read_of words) _ step (read_step words step)
+    (either_step (bytes_eq word (codes "list")) (list_of words) _ step (path_step ListStep words step (λ path k. k))
+    (either_step (bytes_eq word (codes "stat")) (stat_of words) (Err faults.UnknownWord) step (path_step StatStep words step (λ path k. k)) (λ none. absurd (cc none))))))) e
+
+-- ---- lines
+
+sync_rules : (words : List (List ℕ)) (line : Line) → sync_of words ≡ Ok line → KeepsRules line
+sync_rules [] line e = let same : Sync ≡ line = cc in subst KeepsRules same tt
+sync_rules (word ∷ words) line e = absurd (cc)
+
+single_rules : (words : List (List ℕ)) (line : Line) → AreWords words → single_of words ≡ Ok line → KeepsRules line
+single_rules [] line h e = absurd (cc)
+single_rules (word ∷ words) line h e = by (bytes_eq word (codes "sync")) e
+  where
+    by : (t : Bool) → (if t then sync_of words else (step_of (word ∷ words) >>= λ step. Ok (Single step))) ≡ Ok line → KeepsRules line
+    by true e = sync_rules words line e
+    by false e =
+        let step = made_of (step_of (word ∷ words)) (λ step. Ok (Single step)) line e in
+        let same : Single step.x ≡ line = cc step.gives in
+        subst KeepsRules same (step_rules (word ∷ words) step.x h step.is)
+
+words_rules : (words : List (List ℕ)) (line : Line) → AreWords words → line_of_words words ≡ Ok line → KeepsRules line
+words_rules words line h e =
+    let some = unless_ok (is_blank words) (if has_semicolon words then Err faults.UnknownWord else single_of words) faults.Empty line e in
+    single_rules words line h (unless_ok (has_semicolon words) (single_of words) faults.UnknownWord line some)
+
+-- a line that is read keeps the rules
+pub line_rules : (bytes : List ℕ) (line : Line) → line_of bytes ≡ Ok line → KeepsRules line
+line_rules bytes line e =
+    let told = if_ok (list_all is_ascii bytes) (line_of_words (words_of bytes)) faults.NotAscii line e in
+    words_rules (words_of bytes) line (cut_words 32 bytes told.0) told.1
+
+-- the same of an answer, which may be that memory ran out
+pub read_rules : (answer : Result Line LineFault) (bytes : List ℕ) → list_all is_ascii bytes ≡ true → IsUnlessMemory answer (line_of_words (words_of bytes)) → IfOk answer KeepsRules
+read_rules (Ok line) bytes ascii (inl is) = words_rules (words_of bytes) line (cut_words 32 bytes ascii) (sym is)
+read_rules (Ok line) bytes ascii (inr is) = absurd (cc)
+read_rules (Err fault) bytes ascii is = tt
+
+-- ---- scripts
+
+task_rules : (number client : ℕ) (words : List (List ℕ)) (t : Task) → AreWords words → task number client words ≡ Ok t → KeepsRules t.line
+task_rules number client words t h e =
+    let line = made_of (line_of_words words) (λ line. Ok (let x : Task = record { client = client; number = number; line = line } in x)) t e in
+    let same : (let x : Task = record { client = client; number = number; line = line.x } in x) ≡ t = cc line.gives in
+    subst (λ (x : Task). KeepsRules x.line) same (words_rules words line.x h line.is)
+
+sent_rules : (number : ℕ) (words : List (List ℕ)) (t : Task) → AreWords words → sent_task number words ≡ Ok t → KeepsRules t.line
+sent_rules number [] t h e = absurd (cc)
+sent_rules number (client ∷ words) t h e =
+    let sender = made_of (client_of client) (λ (client : ℕ). task number client words) t e in
+    task_rules number sender.x words t h.1 sender.gives
+
+task_words_rules : (many : Bool) (number : ℕ) (words : List (List ℕ)) (t : Task) → AreWords words → task_of_words many number words ≡ Ok t → KeepsRules t.line
+task_words_rules false number words t h e = task_rules number 1 words t h e
+task_words_rules true number words t h e = sent_rules number words t h (unless_ok (is_blank words) (sent_task number words) faults.Empty t e)
+
+one_task_rules : (many : Bool) (number : ℕ) (line : List ℕ) (t : Task) → task_of many number line ≡ Ok t → KeepsRules t.line
+one_task_rules many number line t e =
+    let few = unless_ok (nat_lt MAX_LINES number) (if list_all is_ascii line then task_of_words many number (words_of line) else Err faults.NotAscii) faults.TooManyLines t e in
+    let told = if_ok (list_all is_ascii line) (task_of_words many number (words_of line)) faults.NotAscii t few in
+    task_words_rules many number (words_of line) t (cut_words 32 line told.0) told.1
+
+abbrev pub AllKeepRules : List Task → Type 0
+AllKeepRules tasks = All (λ task. KeepsRules task.line) tasks
+
+before_rules : (number : ℕ) (first : Result Task LineFault) (rest : Result (List Task) ScriptFault) (ts : List Task) → ((t : Task) → first ≡ Ok t → KeepsRules t.line)
+    → ((us : List Task) → rest ≡ Ok us → AllKeepRules us) → before_tasks number first rest ≡ Ok ts → AllKeepRules ts
+before_rules number (Err fault) rest ts one more e = absurd (cc)
+before_rules number (Ok t) (Err fault) ts one more e = absurd (cc)
+before_rules number (Ok t) (Ok us) ts one more e =
+    let same : t ∷ us ≡ ts = cc in
+    subst AllKeepRules same (All-cons (λ (task : Task). KeepsRules task.line) t us (one t refl) (more us refl))
+
+from_rules : (many : Bool) (number : ℕ) (lines : List (List ℕ)) (ts : List Task) → tasks_from many number lines ≡ Ok ts → AllKeepRules ts
+from_rules many number [] ts e =
+    let none : [] ≡ ts = cc in
+    subst AllKeepRules none (All-nil (λ (task : Task). KeepsRules task.line))
+from_rules many number (line ∷ lines) ts e =
+    before_rules number (task_of many number line) (tasks_from many (number + 1) lines) ts
+    (λ t one. one_task_rules many number line t one) (λ us more. from_rules many (number + 1) lines us more) e
+
+-- each line of a script keeps the rules
+pub script_rules : (many : Bool) (script : List ℕ) (ts : List Task) → script_of many script ≡ Ok ts → AllKeepRules ts
+script_rules many script ts e = from_rules many 1 (lines_of script) ts e
