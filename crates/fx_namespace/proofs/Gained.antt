@@ -12,6 +12,7 @@ use Rattle.fx_item.specs.Look.{ItemMap}
 use Rattle.fx_namespace.specs.Nodes.{NodeId, root_node, is_root, led_to, child, node_from, node_at, told_kind, object_kind, kind_of, Stands}
 use Rattle.fx_namespace.specs.Trees.{Holdings, IsTreeOf, node_of, shown}
 use Rattle.fx_namespace.specs.Changes.{Gains, IsPlaceFor}
+use Rattle.fx_namespace.specs.Commits.{LeadsAlso}
 use Rattle.fx_namespace.proofs.Walks.{EndsWith, ends_with, child_value, object_value, kind_of_inner, last_step, more_step, one_path, same_node, same_name, node_path}
 use Rattle.fx_namespace.proofs.Trees.{Left, left, shown_inner}
 
@@ -116,6 +117,15 @@ module _ {m n : ItemMap} {above : List (List ℕ)} {parent : NodeId} {name : Lis
   walk [] before y z at e = inl e
   walk (x ∷ q) before y z at e = option_and_then_some (λ w. node_from n w q) (child n y x) z e (λ w first rest.
       walk_by before y x q w z at rest (λ reached. walk q (before ++ x ∷ []) w z reached rest) (step y x w first))
+
+  -- each path leads where it led before, and the new one to the new node
+  same_way : (q : List (List ℕ)) → q ≢ above ++ name ∷ [] → (o r : Option NodeId) → node_at m q ≡ o → node_at n q ≡ r → r ≡ o
+  same_way q ne (Some y) r e f = sym f ∙ kept_walk q root_node y e
+  same_way q ne None None e f = refl
+  same_way q ne None (Some z) e f = absurd (elim (walk q [] root_node z refl f) [ inl a ↦ cc (sym e ∙ a) | inr a ↦ ne a.0 ])
+
+  pub leads_also : LeadsAlso m n (above ++ name ∷ []) node
+  leads_also = record { new = way; others = λ q ne. same_way q ne (node_at m q) (node_at n q) refl refl }
 
   -- ---- the items stand again
 

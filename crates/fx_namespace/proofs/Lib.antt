@@ -3,3 +3,5 @@ pub mod Gained
 pub mod Resized
 pub mod Trees
 pub mod Empty
+pub mod Items
+pub mod Commits

@@ -27,7 +27,7 @@ module _ {m n : ItemMap} {node : NodeId} {old new : ℕ} (r : Resizes m n node o
   and_then_at f h k None = refl
   and_then_at f h k (Some x) = k x
 
-  same_walk : (q : List (List ℕ)) (y : NodeId) → node_from n y q ≡ node_from m y q
+  pub same_walk : (q : List (List ℕ)) (y : NodeId) → node_from n y q ≡ node_from m y q
   same_walk [] y = refl
   same_walk (x ∷ q) y =
       ap (option_and_then (λ z. node_from n z q)) (same_child y x) ∙ and_then_at (λ z. node_from n z q) (λ z. node_from m z q) (λ z. same_walk q z) (child m y x)

@@ -1,3 +1,5 @@
 pub mod Nodes
 pub mod Trees
 pub mod Changes
+pub mod Commits
+pub mod Wrong

@@ -1,8 +1,7 @@
 -- The tree of paths that items make, for given contents and attributes of their nodes.
-use Rattle.std.specs.Prelude.{◌≡◌, ℕ, List, [], Option, Some, option_and_then, option_map, if◌then◌else◌}
+use Rattle.std.specs.Prelude.{◌≡◌, ℕ, List, Option, Some, option_and_then, option_map, if◌then◌else◌}
 use Rattle.std.specs.FinMap as map
-use Rattle.std.specs.FinSet as set
-use Rattle.fx_plain.specs.Node.{Attributes, Contents, Node, Dir, File, empty_dir}
+use Rattle.fx_plain.specs.Node.{Attributes, Contents, Node, Dir, File, empty_dir, no_contents}
 use Rattle.fx_plain.specs.Tree.{Tree}
 use Rattle.fx_plain.specs.declared.kind.Kind.{Kind}
 use Rattle.fx_plain.specs.declared.kind.Kind.TheVariants as kinds
@@ -13,9 +12,6 @@ use Rattle.fx_namespace.specs.Nodes.{NodeId, is_root, object_kind, node_at}
 pub record Holdings : Type 0 where
   pub contents : NodeId → Contents
   pub attributes : NodeId → Attributes
-
-abbrev pub no_contents : Contents
-no_contents = record { bytes = []; held = set.empty }
 
 -- nothing anywhere
 abbrev pub bare : Holdings
