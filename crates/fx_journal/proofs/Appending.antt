@@ -6,8 +6,9 @@ use Rattle.std.proofs.lemmas.List.Elements.{All-push}
 use Rattle.std.proofs.lemmas.List.{flat_map_more}
 use Rattle.fx_jblock.specs.declared.Start.{Start}
 use Rattle.fx_pool.specs.Region.{Region, Run}
-use Rattle.fx_journal.specs.Ring.{RingState, Queued, IsRing, KeepsBuffers, KeepsOthers, HoldsQueue, Appended, IsFilled, texts, begun, closes, unfinished, want, blocks_out, run_blocks}
+use Rattle.fx_journal.specs.Ring.{RingState, Queued, IsRing, KeepsBuffers, KeepsOthers, HoldsQueue, Appended, IsFilled, first_chain, texts, begun, closes, unfinished, want, blocks_out, run_blocks}
 use Rattle.fx_journal.proofs.Buffers.{others-none, others-same}
+use Rattle.fx_journal.proofs.Queues.{first_chain-push}
 
 -- `begun` is 1 exactly where there are bytes.
 pub begun_most : (xs : List ℕ) → begun xs ≤ 1
@@ -26,6 +27,7 @@ len_begun (x ∷ xs) h = h
 pub record Pieces (first now : RingState) (region : Region) (queue : List Queued) (rest whole : List ℕ) : Type 0 where
   pub blocks : List Queued
   pub filled : All IsFilled blocks
+  pub goes_on : first_chain blocks now.chain ≡ first.chain
   pub holds : HoldsQueue now region (queue ++ blocks)
   pub joined : texts blocks ++ (now.text ++ rest) ≡ first.text ++ whole
 
@@ -59,6 +61,7 @@ going-none first a whole ok kept = record {
   queue = λ queue h. record {
     blocks = [];
     filled = λ k d lt. absurd (omega arith);
+    goes_on = refl;
     holds = subst (λ (l : List Queued). HoldsQueue first a l) (sym (append-nil queue)) h;
     joined = refl;
   };
@@ -76,6 +79,7 @@ pieces-more : (first now : RingState) (b c : Region) (queue : List Queued) (piec
 pieces-more first now b c queue piece later rest whole split full step h = record {
   blocks = h.blocks ++ unfinished now piece ∷ [];
   filled = All-push IsFilled h.blocks (unfinished now piece) h.filled (length-append now.text piece ∙ full);
+  goes_on = first_chain-push h.blocks (unfinished now piece) (closes now piece).chain ∙ h.goes_on;
   holds = subst (λ (l : List Queued). HoldsQueue (closes now piece) c l) (append_assoc queue h.blocks (unfinished now piece ∷ [])) (step (queue ++ h.blocks) h.holds);
   joined = joined-more h.blocks (unfinished now piece) now.text piece later rest refl split ∙ h.joined;
 }
@@ -131,6 +135,7 @@ ends-queue first now begun_ring last a b c rest whole unused h e f step queue he
     record {
       blocks = p.blocks;
       filled = p.filled;
+      goes_on = ap (λ (r : RingState). first_chain p.blocks r.chain) f ∙ ap (λ (r : RingState). first_chain p.blocks r.chain) e ∙ p.goes_on;
       holds = step (queue ++ p.blocks) (subst (λ (r : RingState). HoldsQueue r b (queue ++ p.blocks)) (sym e) same);
       joined = ap (λ (t : List ℕ). texts p.blocks ++ t) (ap (λ (r : RingState). r.text) f ∙ ap (λ (r : RingState). r.text) e) ∙ p.joined;
     }

@@ -29,7 +29,7 @@ held-drop p epoch (suc k) (run ∷ runs) [] h = tt
 held-drop p epoch (suc k) [] (q ∷ qs) h = absurd h
 held-drop p epoch (suc k) (run ∷ runs) (q ∷ qs) h = held-drop p epoch k runs qs h.1
 
-first_chain-push : (queue : List Queued) (q : Queued) (chain : ℕ) → first_chain (queue ++ q ∷ []) chain ≡ first_chain queue q.chain
+pub first_chain-push : (queue : List Queued) (q : Queued) (chain : ℕ) → first_chain (queue ++ q ∷ []) chain ≡ first_chain queue q.chain
 first_chain-push [] q chain = refl
 first_chain-push (x ∷ xs) q chain = refl
 

@@ -184,10 +184,11 @@ texts blocks = flat_map (λ (q : Queued). q.text) blocks
 abbrev pub IsFilled : Queued → Type 0
 IsFilled q = length q.text ≡ RECORD_BYTES
 
--- The record bytes were appended: full blocks were closed, and they and what is left in the unfinished
--- block are what that held before and then the record bytes.
+-- The record bytes were appended: full blocks were closed, which go on from the chain before, and they and
+-- what is left in the unfinished block are what that held before and then the record bytes.
 pub record Appended (old new : RingState) (region : Region) (queue : List Queued) (bytes : List ℕ) : Type 0 where
   pub blocks : List Queued
   pub filled : All IsFilled blocks
+  pub goes_on : first_chain blocks new.chain ≡ old.chain
   pub holds : HoldsQueue new region (queue ++ blocks)
   pub joined : texts blocks ++ new.text ≡ old.text ++ bytes
