@@ -6,3 +6,9 @@ pub mod Runs
 pub mod Numbers
 pub mod Fronts
 pub mod Moves
+pub mod Commits
+pub mod Cuts
+pub mod Counted
+pub mod Epochs
+pub mod Sessions
+pub mod Lengths

@@ -3,3 +3,4 @@ pub mod Writing
 pub mod Reading
 pub mod Txns
 pub mod Progress
+pub mod Commits

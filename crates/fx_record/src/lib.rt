@@ -1,6 +1,7 @@
 //! The records of the journal, and the transactions that a stream of them leaves.
 #![tactic(auto)]
 
+pub mod laws;
 mod reading;
 mod record;
 mod txns;
