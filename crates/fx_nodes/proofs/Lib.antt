@@ -1,0 +1,12 @@
+pub mod Lists
+pub mod Keys
+pub mod Nodes
+pub mod Links
+pub mod Sets
+pub mod Spread
+pub mod Wrong
+pub mod NothingWrong
+pub mod Judged
+pub mod Tree
+pub mod Kept
+pub mod Put
