@@ -1,5 +1,8 @@
 //! The children of a directory.
-ghost use Rattle.std.specs.Prelude.{◌≡◌, ◌++◌, ◌∷◌, [], Contains, IfOk, IfSome, option_map};
+ghost use Rattle.std.specs.Prelude.{◌≡◌, ℕ, List, ◌++◌, ◌∷◌, [], Some, Contains, IfOk, IfSome, option_map};
+ghost use Rattle.fx_plain.specs.Tree.{Tree, children};
+ghost use Rattle.fx_namespace.specs.Nodes.{Stands, node_at};
+ghost use Rattle.fx_namespace.specs.Trees.{Holdings, IsTreeOf};
 ghost use Rattle.fx_item.specs.Item.{ChildKey, item_of};
 ghost use Rattle.fx_dir.specs.Children.{AreChildren, IsFirstChild, child_name};
 
@@ -9,7 +12,10 @@ use std::alloc::{AllocError, Global};
 
 /// The names of a node's children, in the order of their bytes. One look for each, and one more.
 pub fn names<L: Look>(alloc: Global, look: &L, at: LockKey) -> Result<Names, LookFault>
-    ensures { IfOk result (λ names. AreChildren (L.items look.now) at names) }
+    ensures items { IfOk result (λ names. AreChildren (L.items look.now) at names) }
+    // Where the items stand and make a tree, these are that tree's children at each path to the node.
+    ensures tree { IfOk result (λ names. (path : List (List ℕ)) (h : Holdings) (t : Tree) →
+        Stands (L.items look.now) → IsTreeOf (L.items look.now) h t → node_at (L.items look.now) path ≡ Some at → names ≡ children t path) }
 {
     let mut names = Vec::new(alloc);
     let mut from = Name::new(Vec::new(alloc));

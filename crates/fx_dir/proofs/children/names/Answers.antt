@@ -1,4 +1,5 @@
 use Rattle.std.proofs.Common.{◌∙◌}
+use Rattle.fx_dir.proofs.TreeNames.{same_children}
 use Rattle.fx_dir.proofs.Listed.{ended, none_before, step, step_smaller}
 use Rattle.fx_dir.proofs.children.names.Goals as goal
 
@@ -13,5 +14,8 @@ pub loop-names-preserved : goal.loop-names-preserved
 loop-names-preserved g c =
     step (g.L.Look.items c.args.look.now) c.args.at c.loop-names.from c.in_ok-from.from c.in-Some.name c.loop-names.names.items c.push.new.self.items c.in_ok-name.field-0 c.loop-names.invariant c.in-Some.is c.in_ok-name.ensures.first c.in_ok-from.ensures c.in_ok-push.ensures.items
 
-pub returns : goal.returns
-returns g c = ended (g.L.Look.items c.args.look.now) c.args.at c.loop-names.from c.loop-names.names.items c.new-2.result c.in_ok-name.field-0 c.loop-names.invariant c.in_default.is c.in_ok-name.ensures.first c.new-2.ensures
+pub returns-clause-items : goal.returns-clause-items
+returns-clause-items g c = ended (g.L.Look.items c.args.look.now) c.args.at c.loop-names.from c.loop-names.names.items c.new-2.result c.in_ok-name.field-0 c.loop-names.invariant c.in_default.is c.in_ok-name.ensures.first c.new-2.ensures
+
+pub returns-clause-tree : goal.returns-clause-tree
+returns-clause-tree g c = λ path h t stands tree way. same_children stands tree path way c.new-2.result (returns-clause-items g c)
