@@ -1,21 +1,22 @@
 -- A session with one line more.
 use Rattle.std.proofs.Common.{◌≡◌, ℕ, zero, suc, ◌+◌, ◌<◌, ◌≤◌, Bool, true, false, List, [], ◌∷◌, ◌++◌, refl, sym, ap, subst, ◌∙◌, length, take, arith, length-append, inl, inr, cond, ◌-◌, get_or}
 use Rattle.std.specs.Prelude.{Some, IsOk, All, count_by, slice_get, ◌⊎◌}
-use Rattle.std.proofs.lemmas.List.Elements.{All-push}
 use Rattle.std.proofs.lemmas.Option.{slice_get_within, get_or_from_slice_get}
 use Rattle.std.proofs.lemmas.List.{take-append-le}
 use Rattle.std.proofs.lemmas.List.Sums.{fold-append, count_by_more_yes, count_by_more_no}
 use Rattle.std.proofs.Math.Seq.{take-length}
 use Rattle.fx_plain.specs.Tree.{Tree}
 use Rattle.fx_plain.specs.Table.{do_all, do_step}
+use Rattle.fx_script.specs.declared.line.Line.TheVariants.{Sync}
 use Rattle.fx_script.specs.declared.script.Task.{Task}
 use Rattle.fx_history.specs.declared.entry.Entry.{Entry}
 use Rattle.fx_history.specs.declared.outcome.EndKind.{EndKind}
-use Rattle.fx_history.specs.declared.outcome.EndKind.TheVariants.{Committed, Seen, Refused, OutOfMemory}
+use Rattle.fx_history.specs.declared.outcome.EndKind.TheVariants.{Committed, Seen, Refused, Full, Synced, DeviceFault, OutOfMemory}
 use Rattle.fx_history.specs.Outcome.{LineEnd}
-use Rattle.fx_history.specs.History.{Legal, tree_at}
-use Rattle.fx_history.specs.Transcript.{steps_of, is_committed, IsCommitOf, IsAnswered, CommitsAs, Session, EndsNext}
+use Rattle.fx_history.specs.History.{Legal, tree_at, settle}
+use Rattle.fx_history.specs.Transcript.{steps_of, is_committed, IsCommitOf, WouldCommit, IsAnswered, CommitsAs, Session, EndsNext}
 use Rattle.fx_history.proofs.Histories.{got_more, got_last, got_split, tree_at_before, legal_more, legal_none}
+use Rattle.fx_history.proofs.Settling.{all_got, settled_by_some, settled_by_most, settled_by_same, settle_length, settle_get, settle_got, tree_at_settle, legal_settle}
 
 abbrev one_if : Bool → ℕ
 one_if b = cond b 1 0
@@ -31,7 +32,6 @@ pub record Follows (tree : Tree) (base : ℕ) (history : List Entry) (tasks : Li
   pub asked : (k : ℕ) (entry : Entry) → slice_get history k ≡ Some entry → 0 < entry.who → (i : ℕ) × (task : Task) × CommitsAs tasks outcomes entry.number entry.line i task
   pub points : (i : ℕ) (end : LineEnd) → slice_get outcomes i ≡ Some end → end.at ≡ base + count_by commits (take (i + 1) outcomes)
   pub count : length history ≡ count_by commits outcomes
-  pub unsettled : All (λ entry. entry.settled ≡ 0) history
 
 -- an end that was right stays right when a commit with a later number is appended
 answered_kept : (t : Tree) (base : ℕ) (h : List Entry) (e : Entry) (task : Task) (at : ℕ) (kind : EndKind) → e.number ≡ base + length h + 1 → at ≤ base + length h → IsAnswered t h task at kind → IsAnswered t (h ++ e ∷ []) task at kind
@@ -39,7 +39,35 @@ answered_kept t base h e task at Committed n l (i, entry, got, is) = (i, entry, 
 answered_kept t base h e task at (Seen answer) n l (step, seen) =
     (step, record { alone = seen.alone; reading = seen.reading; answers = ap (λ (u : Tree). (do_step u step).0) (tree_at_before t h e at (omega (arith, n, l))) ∙ seen.answers })
 answered_kept t base h e task at (Refused index refusal) n l a = ap (λ (u : Tree). do_all u (steps_of task.line)) (tree_at_before t h e at (omega (arith, n, l))) ∙ a
-answered_kept t base h e task at OutOfMemory n l a = tt
+answered_kept t base h e task at (Full full) n l a = subst (λ (u : Tree). WouldCommit u task.line) (sym (tree_at_before t h e at (omega (arith, n, l)))) a
+answered_kept t base h e task at (Synced calls) n l a = record {
+  sync = a.sync;
+  settled = λ i x got up_to. elim (got_split h e i x got) [
+    | inl old ↦ a.settled i x old up_to
+    | inr new ↦ absurd (omega (arith, n, l, up_to, ap (λ (y : Entry). y.number) new.1))
+  ];
+}
+answered_kept t base h e task at (DeviceFault count) n l a = a
+answered_kept t base h e task at OutOfMemory n l a = a
+
+-- an end that was right stays right when the history is settled
+answered_settle : (t : Tree) (c : ℕ) (h : List Entry) (task : Task) (at : ℕ) (kind : EndKind) → IsAnswered t h task at kind → IsAnswered t (settle c h) task at kind
+answered_settle t c h task at Committed (i, entry, got, is) =
+    (i, _, settle_get c h i entry got, record { number = is.number; who = is.who; line = is.line; no_sync = is.no_sync; steps = is.steps; changing = is.changing })
+answered_settle t c h task at (Seen answer) (step, seen) =
+    (step, record { alone = seen.alone; reading = seen.reading; answers = ap (λ (u : Tree). (do_step u step).0) (tree_at_settle t c h at) ∙ seen.answers })
+answered_settle t c h task at (Refused index refusal) a = ap (λ (u : Tree). do_all u (steps_of task.line)) (tree_at_settle t c h at) ∙ a
+answered_settle t c h task at (Full full) a = subst (λ (u : Tree). WouldCommit u task.line) (sym (tree_at_settle t c h at)) a
+answered_settle t c h task at (Synced calls) a = record {
+  sync = a.sync;
+  settled = λ i x got up_to.
+      let old = settle_got c h i x got in
+      let was : (0 < old.0.settled) × (old.0.settled ≤ calls) = a.settled i old.0 old.1 (omega (arith, up_to, ap (λ (y : Entry). y.number) old.2)) in
+      let same : old.0.settled ≡ x.settled = sym (settled_by_same c old.0.settled was.0) ∙ ap (λ (y : Entry). y.settled) old.2 in
+      subst (λ n. (0 < n) × (n ≤ calls)) same was;
+}
+answered_settle t c h task at (DeviceFault count) a = a
+answered_settle t c h task at OutOfMemory a = a
 
 asked_kept : (tasks : List Task) (outcomes : List LineEnd) (task : Task) (end : LineEnd) (number line i : ℕ) (x : Task) → CommitsAs tasks outcomes number line i x → CommitsAs (tasks ++ task ∷ []) (outcomes ++ end ∷ []) number line i x
 asked_kept tasks outcomes task end number line i x k = record { asked = got_more tasks (task ∷ []) i x k.asked; ended = got_more outcomes (end ∷ []) i _ k.ended; numbered = k.numbered }
@@ -117,7 +145,6 @@ stays t base h tasks outcomes task o k none at a =
       asked = λ j entry got who. let old = k.asked j entry got who in (old.0, old.1, asked_kept tasks outcomes task o entry.number entry.line old.0 old.1 old.2);
       points = points_more base outcomes o k.points (omega (arith, at, k.count, zero_more));
       count = omega (arith, k.count, count_more outcomes o, zero_more);
-      unsettled = k.unsettled;
     }
 
 -- a line that commits
@@ -156,8 +183,41 @@ commits_more t base h tasks outcomes task at e k is settled place ok client =
       ];
       points = points_more base outcomes o k.points (omega (arith, place, k.count));
       count = omega (arith, k.count, count_more outcomes o, length-append h (e ∷ []));
-      unsettled = All-push (λ (x : Entry). x.settled ≡ 0) h e k.unsettled settled;
     }
+
+-- each entry of a client is a line that committed, also once it is settled
+asked_settle : (c : ℕ) (h : List Entry) (tasks : List Task) (outcomes : List LineEnd)
+    → ((k : ℕ) (entry : Entry) → slice_get h k ≡ Some entry → 0 < entry.who → (i : ℕ) × (task : Task) × CommitsAs tasks outcomes entry.number entry.line i task)
+    → (k : ℕ) (entry : Entry) → slice_get (settle c h) k ≡ Some entry → 0 < entry.who → (i : ℕ) × (task : Task) × CommitsAs tasks outcomes entry.number entry.line i task
+asked_settle c h tasks outcomes k j entry got who =
+    let old = settle_got c h j entry got in
+    subst (λ (e : Entry). (i : ℕ) × (task : Task) × CommitsAs tasks outcomes e.number e.line i task) old.2 (k j old.0 old.1 (omega (arith, who, ap (λ (e : Entry). e.who) old.2)))
+
+-- the history is settled
+pub follows_settle : (t : Tree) (base c : ℕ) (h : List Entry) (tasks : List Task) (outcomes : List LineEnd) → Follows t base h tasks outcomes
+    → 0 < c → All (λ entry. entry.settled ≤ c) h → Follows t base (settle c h) tasks outcomes
+follows_settle t base c h tasks outcomes k some most = record {
+  legal = legal_settle t base c h k.legal some most;
+  one_each = k.one_each;
+  answered = λ i x end gotx gotend. answered_settle t c h x end.at end.kind (k.answered i x end gotx gotend);
+  asked = asked_settle c h tasks outcomes k.asked;
+  points = k.points;
+  count = settle_length c h ∙ k.count;
+}
+
+-- a sync
+syncs : (t : Tree) (base c : ℕ) (h : List Entry) (tasks : List Task) (outcomes : List LineEnd) (task : Task) (at : ℕ) → Follows t base h tasks outcomes
+    → at ≡ base + length h → task.line ≡ Sync → 0 < c → All (λ entry. entry.settled ≤ c) h → Follows t base (settle c h) (tasks ++ task ∷ []) (outcomes ++ record { at = at; kind = Synced c } ∷ [])
+syncs t base c h tasks outcomes task at k place sync some most =
+    stays t base (settle c h) tasks outcomes task (record { at = at; kind = Synced c }) (follows_settle t base c h tasks outcomes k some most) refl
+    (omega (arith, place, settle_length c h))
+    (record {
+      sync = sync;
+      settled = λ i x got up_to.
+          let old = settle_got c h i x got in
+          subst (λ (e : Entry). (0 < e.settled) × (e.settled ≤ c)) old.2
+          (settled_by_some c old.0.settled some, settled_by_most c old.0.settled (all_got (λ (e : Entry). e.settled ≤ c) h i old.0 most old.1));
+    })
 
 -- a line more, by how it ended
 pub follows_more : (kind : EndKind) (at : ℕ) (t : Tree) (base : ℕ) (h new : List Entry) (tasks : List Task) (outcomes : List LineEnd) (task : Task) → Follows t base h tasks outcomes
@@ -168,8 +228,14 @@ follows_more (Seen answer) at t base h new tasks outcomes task k client (is_new,
     subst (λ (x : List Entry). Follows t base x (tasks ++ task ∷ []) (outcomes ++ record { at = at; kind = Seen answer } ∷ [])) (sym is_new) (stays t base h tasks outcomes task (record { at = at; kind = Seen answer }) k refl place a)
 follows_more (Refused index refusal) at t base h new tasks outcomes task k client (is_new, place, a) =
     subst (λ (x : List Entry). Follows t base x (tasks ++ task ∷ []) (outcomes ++ record { at = at; kind = Refused index refusal } ∷ [])) (sym is_new) (stays t base h tasks outcomes task (record { at = at; kind = Refused index refusal }) k refl place a)
-follows_more OutOfMemory at t base h new tasks outcomes task k client (is_new, place) =
-    subst (λ (x : List Entry). Follows t base x (tasks ++ task ∷ []) (outcomes ++ record { at = at; kind = OutOfMemory } ∷ [])) (sym is_new) (stays t base h tasks outcomes task (record { at = at; kind = OutOfMemory }) k refl place tt)
+follows_more (Full full) at t base h new tasks outcomes task k client (is_new, place, a) =
+    subst (λ (x : List Entry). Follows t base x (tasks ++ task ∷ []) (outcomes ++ record { at = at; kind = Full full } ∷ [])) (sym is_new) (stays t base h tasks outcomes task (record { at = at; kind = Full full }) k refl place a)
+follows_more (Synced calls) at t base h new tasks outcomes task k client (is_new, place, sync, some, most) =
+    subst (λ (x : List Entry). Follows t base x (tasks ++ task ∷ []) (outcomes ++ record { at = at; kind = Synced calls } ∷ [])) (sym is_new) (syncs t base calls h tasks outcomes task at k place sync some most)
+follows_more (DeviceFault count) at t base h new tasks outcomes task k client (is_new, place, a) =
+    subst (λ (x : List Entry). Follows t base x (tasks ++ task ∷ []) (outcomes ++ record { at = at; kind = DeviceFault count } ∷ [])) (sym is_new) (stays t base h tasks outcomes task (record { at = at; kind = DeviceFault count }) k refl place a)
+follows_more OutOfMemory at t base h new tasks outcomes task k client (is_new, place, answer) =
+    subst (λ (x : List Entry). Follows t base x (tasks ++ task ∷ []) (outcomes ++ record { at = at; kind = OutOfMemory } ∷ [])) (sym is_new) (stays t base h tasks outcomes task (record { at = at; kind = OutOfMemory }) k refl place answer)
 
 pub follows_none : (t : Tree) (base : ℕ) → Follows t base [] [] []
 follows_none t base = record {
@@ -179,7 +245,6 @@ follows_none t base = record {
   asked = λ j entry p w. absurd (cc p);
   points = λ i end p. cc;
   count = refl;
-  unsettled = λ i d l. absurd (omega arith);
 }
 
 -- the session that the lines so far make
@@ -198,4 +263,20 @@ session_of t base h tasks outcomes k = record {
   };
   points = k.points;
   count = k.count;
+}
+
+-- the history of a session is settled after its last line
+pub session_settle : (t : Tree) (base c : ℕ) (h : List Entry) (tasks : List Task) (outcomes : List LineEnd) → Session t base h tasks outcomes
+    → 0 < c → All (λ entry. entry.settled ≤ c) h → Session t base (settle c h) tasks outcomes
+session_settle t base c h tasks outcomes k some most = record {
+  transcript = record {
+    legal = legal_settle t base c h k.transcript.legal some most;
+    one_each = k.transcript.one_each;
+    answered = λ i x end gotx gotend. answered_settle t c h x end.at end.kind (k.transcript.answered i x end gotx gotend);
+    asked = asked_settle c h tasks outcomes k.transcript.asked;
+    within = λ i end got. let was = k.transcript.within i end got in (was.0, omega (arith, was.1, settle_length c h));
+    in_order = k.transcript.in_order;
+  };
+  points = k.points;
+  count = settle_length c h ∙ k.count;
 }

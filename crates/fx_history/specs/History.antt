@@ -1,5 +1,5 @@
 -- Histories: what was committed, and the trees that it leads to.
-use Rattle.std.specs.Prelude.{◌≡◌, ℕ, ◌+◌, ◌<◌, ◌≤◌, List, [], Some, IsOk, nat_le, filter, fold, slice_get}
+use Rattle.std.specs.Prelude.{◌≡◌, ℕ, ◌+◌, ◌<◌, ◌≤◌, zero, suc, List, [], Some, IsOk, nat_le, filter, fold, map, slice_get}
 use Rattle.std.specs.Result.{result_unwrap_or}
 use Rattle.fx_plain.specs.Tree.{Tree}
 use Rattle.fx_plain.specs.Table.{do_all}
@@ -23,3 +23,21 @@ pub record Legal (tree : Tree) (base : ℕ) (history : List Entry) : Type 0 wher
   pub upkeep : (i : ℕ) (entry : Entry) → slice_get history i ≡ Some entry → entry.who ≡ 0 → entry.steps ≡ []
   -- entries settle in their order
   pub settles : (i j : ℕ) (earlier later : Entry) → i < j → slice_get history i ≡ Some earlier → slice_get history j ≡ Some later → 0 < later.settled → (0 < earlier.settled) × (earlier.settled ≤ later.settled)
+
+-- The first so many entries are settled, and the others are not.
+pub record SettledFirst (count : ℕ) (history : List Entry) : Type 0 where
+  pub before : (i : ℕ) (entry : Entry) → slice_get history i ≡ Some entry → i < count → 0 < entry.settled
+  pub after : (i : ℕ) (entry : Entry) → slice_get history i ≡ Some entry → count ≤ i → entry.settled ≡ 0
+
+-- when an entry was settled: as before, or now where it was not
+abbrev pub settled_by : ℕ → ℕ → ℕ
+settled_by calls zero = calls
+settled_by calls (suc before) = suc before
+
+-- the entry, settled after so many device calls if it was not settled before
+abbrev pub settle_entry : ℕ → Entry → Entry
+settle_entry calls entry = record entry { settled = settled_by calls entry.settled }
+
+-- the history, where the entries that were not settled are settled after so many device calls
+abbrev pub settle : ℕ → List Entry → List Entry
+settle calls history = map (settle_entry calls) history

@@ -1,33 +1,47 @@
 -- What outcomes say of a history.
-use Rattle.std.specs.Prelude.{◌≡◌, ℕ, ◌+◌, ◌<◌, ◌≤◌, Bool, true, false, List, [], ◌∷◌, ◌++◌, Some, Ok, Err, IsOk, length, take, count_by, slice_get}
+use Rattle.std.specs.Prelude.{◌≡◌, ◌≢◌, ℕ, ◌+◌, ◌<◌, ◌≤◌, Bool, true, false, List, [], ◌∷◌, ◌++◌, Some, Ok, Err, IsOk, All, length, take, count_by, slice_get}
 use Rattle.std.specs.List.{list_any}
 use Rattle.fx_plain.specs.Tree.{Tree}
 use Rattle.fx_plain.specs.Table.{do_step, do_all, is_reading}
 use Rattle.fx_plain.specs.declared.step.Step.{Step}
 use Rattle.fx_plain.specs.declared.step.Answer.{Answer}
 use Rattle.fx_script.specs.declared.line.Line.{Line}
-use Rattle.fx_script.specs.declared.line.Line.TheVariants.{Single}
+use Rattle.fx_script.specs.declared.line.Line.TheVariants.{Single, Sync}
 use Rattle.fx_script.specs.declared.script.Task.{Task}
 use Rattle.fx_history.specs.declared.entry.Entry.{Entry}
 use Rattle.fx_history.specs.declared.outcome.EndKind.{EndKind}
-use Rattle.fx_history.specs.declared.outcome.EndKind.TheVariants.{Committed, Seen, Refused, OutOfMemory}
+use Rattle.fx_history.specs.declared.outcome.EndKind.TheVariants.{Committed, Seen, Refused, Full, Synced, DeviceFault, OutOfMemory}
 use Rattle.fx_history.specs.Outcome.{LineEnd}
-use Rattle.fx_history.specs.History.{Legal, tree_at}
+use Rattle.fx_history.specs.History.{Legal, tree_at, settle}
 
 abbrev pub steps_of : Line → List Step
 steps_of (Single step) = step ∷ []
+steps_of Sync = []
 
 abbrev pub is_committed : EndKind → Bool
 is_committed Committed = true
 is_committed (Seen answer) = false
 is_committed (Refused index refusal) = false
+is_committed (Full full) = false
+is_committed (Synced calls) = false
+is_committed (DeviceFault count) = false
 is_committed OutOfMemory = false
+
+abbrev pub is_fault : EndKind → Bool
+is_fault Committed = false
+is_fault (Seen answer) = false
+is_fault (Refused index refusal) = false
+is_fault (Full full) = false
+is_fault (Synced calls) = false
+is_fault (DeviceFault count) = true
+is_fault OutOfMemory = false
 
 -- the entry is the commit of the line, whose steps all change the tree
 pub record IsCommitOf (task : Task) (at : ℕ) (entry : Entry) : Type 0 where
   pub number : entry.number ≡ at
   pub who : entry.who ≡ task.client
   pub line : entry.line ≡ task.number
+  pub no_sync : task.line ≢ Sync
   pub steps : entry.steps ≡ steps_of task.line
   pub changing : list_any is_reading (steps_of task.line) ≡ false
 
@@ -37,12 +51,27 @@ pub record IsSeenBy (tree : Tree) (line : Line) (answer : Answer) (step : Step) 
   pub reading : is_reading step ≡ true
   pub answers : (do_step tree step).0 ≡ Ok answer
 
+-- the line's steps all change the tree, and would all be done there
+pub record WouldCommit (tree : Tree) (line : Line) : Type 0 where
+  pub no_sync : line ≢ Sync
+  pub changing : list_any is_reading (steps_of line) ≡ false
+  pub done : IsOk (do_all tree (steps_of line))
+
+-- the line is a sync, and the commits up to its point are settled after at most so many device calls
+pub record IsSynced (history : List Entry) (line : Line) (at calls : ℕ) : Type 0 where
+  pub sync : line ≡ Sync
+  pub settled : (i : ℕ) (entry : Entry) → slice_get history i ≡ Some entry → entry.number ≤ at → (0 < entry.settled) × (entry.settled ≤ calls)
+
 -- The end of a line is right: a commit is in the history, and an answer or a refusal is the one of the tree at its point.
+-- Of a disk that failed and of want of memory nothing more is said, but that a sync alone uses the disk, and takes no memory.
 abbrev pub IsAnswered : Tree → List Entry → Task → ℕ → EndKind → Type 0
 IsAnswered tree history task at Committed = (i : ℕ) × (entry : Entry) × (slice_get history i ≡ Some entry) × IsCommitOf task at entry
 IsAnswered tree history task at (Seen answer) = (step : Step) × IsSeenBy (tree_at tree history at) task.line answer step
 IsAnswered tree history task at (Refused index refusal) = do_all (tree_at tree history at) (steps_of task.line) ≡ Err (index, refusal)
-IsAnswered tree history task at OutOfMemory = Unit {0}
+IsAnswered tree history task at (Full full) = WouldCommit (tree_at tree history at) task.line
+IsAnswered tree history task at (Synced calls) = IsSynced history task.line at calls
+IsAnswered tree history task at (DeviceFault count) = task.line ≡ Sync
+IsAnswered tree history task at OutOfMemory = task.line ≢ Sync
 
 -- the line committed with this number
 pub record CommitsAs (tasks : List Task) (outcomes : List LineEnd) (number line : ℕ) (i : ℕ) (task : Task) : Type 0 where
@@ -76,4 +105,7 @@ EndsNext tree base old new task at Committed =
     (entry : Entry) × (new ≡ old ++ entry ∷ []) × IsCommitOf task at entry × (entry.settled ≡ 0) × (at ≡ base + length old + 1) × IsOk (do_all (tree_at tree old (base + length old)) entry.steps)
 EndsNext tree base old new task at (Seen answer) = (new ≡ old) × (at ≡ base + length old) × IsAnswered tree old task at (Seen answer)
 EndsNext tree base old new task at (Refused index refusal) = (new ≡ old) × (at ≡ base + length old) × IsAnswered tree old task at (Refused index refusal)
-EndsNext tree base old new task at OutOfMemory = (new ≡ old) × (at ≡ base + length old)
+EndsNext tree base old new task at (Full full) = (new ≡ old) × (at ≡ base + length old) × IsAnswered tree old task at (Full full)
+EndsNext tree base old new task at (Synced calls) = (new ≡ settle calls old) × (at ≡ base + length old) × (task.line ≡ Sync) × (0 < calls) × All (λ entry. entry.settled ≤ calls) old
+EndsNext tree base old new task at (DeviceFault count) = (new ≡ old) × (at ≡ base + length old) × IsAnswered tree old task at (DeviceFault count)
+EndsNext tree base old new task at OutOfMemory = (new ≡ old) × (at ≡ base + length old) × IsAnswered tree old task at OutOfMemory

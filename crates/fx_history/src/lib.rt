@@ -4,6 +4,11 @@
 
 mod entry;
 mod outcome;
+mod text;
 
 pub use entry::{Entry, History};
 pub use outcome::{EndKind, Outcome, Outcomes};
+pub use text::result_text;
+
+#[cfg(test)]
+mod tests;

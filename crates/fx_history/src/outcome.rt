@@ -1,6 +1,7 @@
 //! How lines end.
 ghost use Rattle.std.specs.Prelude.{◌≡◌};
 
+use fx_journal::Full;
 use fx_plain::{Answer, Refusal};
 use std::marker::Model;
 
@@ -13,6 +14,12 @@ pub enum EndKind {
     Seen(Answer),
     /// The step with this index, from 1, was refused, and nothing was changed.
     Refused(u32, Refusal),
+    /// The journal's ring had no room for the commit, and nothing was changed.
+    Full(Full),
+    /// All commits up to the line's number are kept by a stop after so many device calls.
+    Synced(u64),
+    /// The disk failed, and this is its count of faults then.
+    DeviceFault(u64),
     /// No memory was to be had, and nothing was changed.
     OutOfMemory,
 }
