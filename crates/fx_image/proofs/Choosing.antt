@@ -1,12 +1,12 @@
 -- Which superblock an image chooses, by what stands in its two places.
-use Rattle.std.proofs.Common.{◌≡◌, ℕ, zero, suc, ◌+◌, ◌≤◌, ◌<◌, ◌⊎◌, inl, inr, ⊎_elim, List, [], ◌∷◌, Bool, true, false, refl, sym, subst, ◌∙◌, ap, arith, Contains, get_or}
+use Rattle.std.proofs.Common.{◌≡◌, ℕ, zero, suc, ◌+◌, ◌⊎◌, inl, inr, ⊎_elim, List, [], ◌∷◌, refl, sym, subst, arith, Contains}
 use Rattle.std.specs.Str.{bytes_eq}
 use Rattle.std.proofs.lemmas.Slice.Eq.{bytes_eq-Decides}
 use Rattle.std.proofs.lemmas.Bool.{cases_Bool}
 use Rattle.std.proofs.lemmas.Bool.Decides.{not_from_Decides}
 use Rattle.fx_disk.proofs.Cells.{one-is}
 use Rattle.fx_super.specs.Super.{Fields, IsSuper}
-use Rattle.fx_super.specs.Chosen.{IsChosen, GoesBefore, block_of, other}
+use Rattle.fx_super.specs.Chosen.{GoesBefore, block_of, other}
 use Rattle.fx_super.specs.declared.choice.Which.{Which}
 use Rattle.fx_super.specs.declared.choice.Which.TheVariants.{A, B}
 use Rattle.fx_super.proofs.Chosen.{one_fields}
@@ -22,11 +22,11 @@ after-before : (which : Which) (n : ℕ) → GoesBefore which (n + 1) n
 after-before A n = omega arith
 after-before B n = omega arith
 
-same-list : (xs ys : List ℕ) → (xs ≡ ys) ⊎ (xs ≡ ys → ⊥)
+pub same-list : (xs ys : List ℕ) → (xs ≡ ys) ⊎ (xs ≡ ys → ⊥)
 same-list xs ys = ⊎_elim (λ t. inl ((bytes_eq-Decides xs ys).0 t)) (λ f. inr (not_from_Decides (bytes_eq xs ys) (bytes_eq-Decides xs ys) f)) (cases_Bool (bytes_eq xs ys))
 
 -- one of two
-two-is : (x y z : List ℕ) → Contains (x ∷ y ∷ []) z → (x ≡ z) ⊎ (y ≡ z)
+pub two-is : (x y z : List ℕ) → Contains (x ∷ y ∷ []) z → (x ≡ z) ⊎ (y ≡ z)
 two-is x y z (zero, lt, e) = inl e
 two-is x y z (suc k, lt, e) = inr (one-is y z (k, omega arith, e))
 

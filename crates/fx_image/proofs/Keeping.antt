@@ -1,19 +1,20 @@
 -- The chosen superblock over the calls of a mount and a sync, by one record.
-use Rattle.std.proofs.Common.{◌≡◌, ◌≢◌, ℕ, ◌+◌, ◌≤◌, ◌<◌, ◌⊎◌, inl, inr, ⊎_elim, ◌&&◌, not, if◌then◌else◌, List, [], ◌∷◌, ◌++◌, set, Bool, true, false, length, refl, sym, subst, ◌∙◌, ap, arith, Contains, get_or}
+use Rattle.std.proofs.Common.{◌≡◌, ◌≢◌, ℕ, ◌≤◌, ◌<◌, inl, ⊎_elim, ◌&&◌, not, if◌then◌else◌, List, [], ◌∷◌, ◌++◌, set, Bool, true, false, length, refl, sym, subst, ◌∙◌, ap, arith, Contains, get_or}
 use Rattle.std.proofs.lemmas.Bool.{cases_Bool}
 use Rattle.std.proofs.Math.Seq.{take-length}
-use Rattle.fx_disk.specs.Record.{Call, Write, Flush, DiskRecord, Cell, Fits, Left, LeftNow, candidates, cell_first, cell_now, cell_after, cell_at, settled_cell, written_cell, flushed_cell, after_calls}
+use Rattle.fx_disk.specs.Record.{Call, Write, Flush, DiskRecord, Cell, Left, LeftNow, candidates, cell_first, cell_now, cell_after, settled_cell, written_cell, flushed_cell, after_calls}
 use Rattle.fx_disk.specs.Steps.{IsRecordOf, with_call, with_write, with_flush}
 use Rattle.fx_disk.specs.Always.{Always}
-use Rattle.fx_disk.proofs.Left.{Left-now, cells-now, cell_now-with_call, cell_after-with_call, length-with_call}
+use Rattle.fx_disk.proofs.Left.{Left-now, cell_now-with_call, cell_after-with_call, length-with_call}
 use Rattle.fx_disk.proofs.Cells.{IsFixed, fixed-after, last-is_candidate, candidates-flush, after-write, other-block, after-write_flush}
 use Rattle.fx_disk.proofs.Kept.{Always-write, Always-flush, Always-now}
 use Rattle.fx_super.specs.Super.{Fields, IsSuper}
-use Rattle.fx_super.specs.Chosen.{IsChosen, GoesBefore, block_of, block_number, other}
+use Rattle.fx_super.specs.Chosen.{IsChosen, block_of, block_number, other}
 use Rattle.fx_super.specs.declared.choice.Which.{Which}
 use Rattle.fx_super.specs.declared.choice.Which.TheVariants.{A, B}
-use Rattle.fx_image.specs.Chance.{NotByChance, PassesForSuper}
-use Rattle.fx_image.specs.Chosen.{next_generation, Chooses, ChoosesEither, LeavesEither, BeginsAt, ChoosesSince, ChoosesNext}
+use Rattle.fx_image.specs.Chance.{HasTrueSupers}
+use Rattle.fx_image.specs.Chosen.{next_generation, Chooses, ChoosesEither}
+use Rattle.fx_image.specs.Raising.{LeavesEither, BeginsAt, ChoosesSince, ChoosesNext}
 use Rattle.fx_super.proofs.Chosen.{one_chosen}
 use Rattle.fx_image.proofs.Choosing.{chooses_next, chooses_either}
 
@@ -27,10 +28,10 @@ begins-before r call contents from f le h = record {
 }
 
 -- a flush changes no block's bytes, and makes none loose
-flushed-bytes : (ok : Bool) (cell : Cell) → (flushed_cell ok cell).bytes ≡ cell.bytes
+pub flushed-bytes : (ok : Bool) (cell : Cell) → (flushed_cell ok cell).bytes ≡ cell.bytes
 flushed-bytes ok cell = elim (ok && not cell.failed) as (λ t. (if t then settled_cell cell else cell).bytes ≡ cell.bytes) [ true ↦ refl | false ↦ refl ]
 
-flushed-fixed : (ok : Bool) (cell : Cell) → cell.loose ≡ false → (flushed_cell ok cell).loose ≡ false
+pub flushed-fixed : (ok : Bool) (cell : Cell) → cell.loose ≡ false → (flushed_cell ok cell).loose ≡ false
 flushed-fixed ok cell e = elim (ok && not cell.failed) as (λ t. (if t then settled_cell cell else cell).loose ≡ false) [ true ↦ refl | false ↦ e ]
 
 -- a flush leaves nothing that was not left before it
@@ -44,7 +45,7 @@ left-before r ok image left = record {
 }
 
 -- and nothing that is there by chance only before it
-chance-before : (r : DiskRecord) (ok : Bool) (image : List (List ℕ)) → 2 ≤ length r.entry → LeftNow (with_flush r ok) image → NotByChance (cell_now (with_flush r ok)) image → NotByChance (cell_now r) image
+chance-before : (r : DiskRecord) (ok : Bool) (image : List (List ℕ)) → 2 ≤ length r.entry → LeftNow (with_flush r ok) image → HasTrueSupers (cell_now (with_flush r ok)) image → HasTrueSupers (cell_now r) image
 chance-before r ok image slots left chance = record {
   supers = λ b two loose passes.
       let c : cell_now (with_flush r ok) b ≡ flushed_cell ok (cell_now r b) = cell_now-with_call r (Flush ok) r.contents b in
@@ -69,7 +70,7 @@ pub next-flush : (from : ℕ) (r : DiskRecord) (ok : Bool) → from ≤ length r
 next-flush from r ok le h f begins image left = h f (begins-before r (Flush ok) r.contents from f le begins) image (left-before r ok image left)
 
 -- before a further call
-cell_after-now : (r : DiskRecord) (b : ℕ) → cell_after r (length r.calls) b ≡ cell_now r b
+pub cell_after-now : (r : DiskRecord) (b : ℕ) → cell_after r (length r.calls) b ≡ cell_now r b
 cell_after-now r b = ap (λ (cs : List Call). after_calls b cs (cell_first r b)) (take-length r.calls)
 
 module _ (size : ℕ) (r : DiskRecord) (ok : IsRecordOf size (length r.calls) r) (f : Fields) (begins : BeginsAt r (length r.calls) f) where
@@ -158,7 +159,7 @@ module _ (size : ℕ) (r : DiskRecord) (ok : IsRecordOf size (length r.calls) r)
         ap candidates (after-write r b bytes good (set r.contents b held)) ∙ ap (λ (cs : List (List ℕ)). (cell_now r b).settled ∷ (cs ++ bytes ∷ [])) h.since
         ∙ ap (λ (x : List ℕ). x ∷ bytes ∷ []) (h.settled ∙ reads-now size r ok f begins b (slot-lt (other which)))
 
-    either-left : (image : List (List ℕ)) → LeftNow s image → NotByChance (cell_now s) image → ChoosesEither f image
+    either-left : (image : List (List ℕ)) → LeftNow s image → HasTrueSupers (cell_now s) image → ChoosesEither f image
     either-left image left chance =
         chooses_either which f image (block_of r.contents (other which)) bytes (super-left image left) is.goes_before next
         (λ passes. subst (λ (xs : List (List ℕ)). Contains xs (block_of image (other which))) candidates-here

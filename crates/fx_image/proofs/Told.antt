@@ -1,12 +1,13 @@
 -- The same of what a disk tells, or does not tell.
-use Rattle.std.proofs.Common.{◌≡◌, ℕ, ◌+◌, ◌≤◌, List, [], Bool, true, false, length, refl, sym, subst, ◌∙◌, ap, arith, ⊎_elim}
+use Rattle.std.proofs.Common.{◌≡◌, ℕ, ◌+◌, ◌≤◌, List, Bool, true, length, refl, sym, subst, ⊎_elim}
 use Rattle.std.specs.Prelude.{Option, Some, None, IfSome, Result, Ok, Err, OnOk, is_ok}
 use Rattle.fx_disk.specs.Record.{DiskRecord}
-use Rattle.fx_disk.specs.Steps.{IsRecordOf, Writes, Flushes, MadeOrNot, IsMade, with_write, with_flush}
+use Rattle.fx_disk.specs.Steps.{IsRecordOf, Writes, Flushes, MadeOrNot, with_write, with_flush}
 use Rattle.fx_super.specs.Super.{Fields, IsSuper}
 use Rattle.fx_super.specs.Chosen.{IsChosen, block_number, other}
 use Rattle.fx_super.specs.declared.choice.Which.{Which}
-use Rattle.fx_image.specs.Chosen.{next_generation, ChoosesSince, ChoosesNext}
+use Rattle.fx_image.specs.Chosen.{next_generation}
+use Rattle.fx_image.specs.Raising.{ChoosesSince, ChoosesNext}
 use Rattle.fx_image.proofs.Keeping.{since-begun, since-flush, next-flush, since-raise, next-raised}
 
 -- of a disk with these counts, what it tells

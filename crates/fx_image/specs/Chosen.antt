@@ -1,12 +1,9 @@
--- Which superblock the images of a mounted disk have.
-use Rattle.std.specs.Prelude.{◌⊎◌, ℕ, ◌+◌, ◌≤◌, List, [], ◌∷◌, length}
-use Rattle.fx_disk.specs.Record.{DiskRecord, Cell, LeftNow, cell_after}
-use Rattle.fx_disk.specs.Always.{Always}
-use Rattle.fx_disk.specs.Settled.{WasSettled}
+-- Which superblock an image has, and what it says.
+use Rattle.std.specs.Prelude.{◌⊎◌, ℕ, ◌+◌, List, ◌++◌}
 use Rattle.fx_super.specs.declared.choice.Which.{Which}
 use Rattle.fx_super.specs.Super.{Fields}
 use Rattle.fx_super.specs.Chosen.{IsChosen}
-use Rattle.fx_image.specs.Chance.{NotByChance}
+use Rattle.fx_jblock.specs.declared.Start.{Start}
 
 -- the same superblock in the next generation
 abbrev pub next_generation : Fields → Fields
@@ -20,22 +17,10 @@ Chooses f image = (which : Which) × IsChosen image which f
 abbrev pub ChoosesEither : Fields → List (List ℕ) → Type 0
 ChoosesEither f image = Chooses f image ⊎ Chooses (next_generation f) image
 
--- Unless a block is there by chance.
-abbrev pub LeavesEither : Fields → (ℕ → Cell) → ℕ → List (List ℕ) → Type 0
-LeavesEither f cells m image = NotByChance cells image → ChoosesEither f image
+-- where the superblock says that the stream begins
+abbrev pub start_of : Fields → Start
+start_of f = record { sequence = f.sequence; chain = f.chain; floor = f.floor }
 
--- Nothing is loose after the first calls, and this superblock is chosen then.
-pub record BeginsAt (r : DiskRecord) (from : ℕ) (f : Fields) : Type 0 where
-  pub slots : 2 ≤ length r.entry
-  pub settled : WasSettled from r
-  pub chosen : Chooses f ((cell_after r from 0).bytes ∷ (cell_after r from 1).bytes ∷ [])
-
--- At every moment from there on, every image left that is not there by chance has that superblock
--- chosen, or that of the next generation.
-pub record ChoosesSince (from : ℕ) (r : DiskRecord) : Type 0 where
-  pub since : from ≤ length r.calls
-  pub always : (f : Fields) → BeginsAt r from f → Always (LeavesEither f) from r
-
--- Every image left now has that of the next generation chosen.
-abbrev pub ChoosesNext : ℕ → DiskRecord → Type 0
-ChoosesNext from r = (f : Fields) → BeginsAt r from f → (image : List (List ℕ)) → LeftNow r image → Chooses (next_generation f) image
+-- the first blocks of all layers that it names
+abbrev pub layers_of : Fields → List ℕ
+layers_of f = f.objects ++ f.allocs

@@ -1,3 +1,10 @@
-pub mod Chance
 pub mod Chosen
+pub mod Chance
+pub mod Raising
 pub mod Longer
+pub mod Standing
+pub mod Ring
+pub mod Log
+pub mod Prefix
+pub mod Journal
+pub mod Mounted

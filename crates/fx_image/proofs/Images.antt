@@ -1,0 +1,47 @@
+-- An image stands for one tree.
+use Rattle.std.proofs.Common.{◌≡◌, ℕ, List, sym, subst, arith}
+use Rattle.fx_plain.specs.Tree.{Tree}
+use Rattle.fx_namespace.specs.Trees.{IsTreeOf, bare}
+use Rattle.fx_namespace.proofs.Trees.{one_tree}
+use Rattle.fx_jblock.specs.declared.Start.{Start}
+use Rattle.fx_journal.specs.declared.stream.StreamBlock.{StreamBlock}
+use Rattle.fx_journal.specs.Stream.{IsStream}
+use Rattle.fx_journal.proofs.Runs.{one_stream}
+use Rattle.fx_record.specs.Txns.{IsTxns}
+use Rattle.fx_record.proofs.Fronts.{one_answer}
+use Rattle.fx_super.specs.Super.{Fields, KeepsRules}
+use Rattle.fx_super.proofs.Chosen.{one_chosen}
+use Rattle.fx_image.specs.Chosen.{Chooses, start_of}
+use Rattle.fx_image.specs.Standing.{Transactions, IsImage, items_after, pieces_of}
+
+pub one_super : (image : List (List ℕ)) (f g : Fields) → Chooses f image → Chooses g image → f ≡ g
+one_super image f g a b = (one_chosen image a.0 b.0 f g a.1 b.1).1
+
+pub rules_chosen : (image : List (List ℕ)) (f : Fields) → Chooses f image → KeepsRules f
+rules_chosen image f h = h.1.is_super.rules
+
+pub stream_chosen : (image : List (List ℕ)) (f : Fields) (p q : Start) (xs ys : List StreamBlock) → KeepsRules f
+    → IsStream image f.ring f.generation (start_of f) xs p → IsStream image f.ring f.generation (start_of f) ys q → (xs ≡ ys) × (p ≡ q)
+stream_chosen image f p q xs ys rules a b =
+    one_stream image f.ring f.generation (start_of f) p q xs ys (omega (arith, rules.generation_most)) (omega (arith, rules.sequence_below, rules.ring_most)) a b
+
+module _ (size : ℕ) (image : List (List ℕ)) (f : Fields) where
+  pub one_journal : (xs ys : Transactions) (t u : Tree) → IsImage size image f xs t → IsImage size image f ys u → xs ≡ ys
+  one_journal xs ys t u a b =
+      let same = stream_chosen image f a.next b.next a.stream b.stream (rules_chosen image f a.chosen) a.stream_is b.stream_is in
+      let other : IsTxns f.base (pieces_of a.stream) ys = subst (λ (s : List StreamBlock). IsTxns f.base (pieces_of s) ys) (sym same.0) b.txns_are in
+      one_answer f.base (pieces_of a.stream) xs ys a.txns_are other
+
+  pub one_image : (xs ys : Transactions) (t u : Tree) → IsImage size image f xs t → IsImage size image f ys u → (xs ≡ ys) × (t ≡ u)
+  one_image xs ys t u a b =
+      let same : xs ≡ ys = one_journal xs ys t u a b in
+      let other : IsTreeOf (items_after xs) bare u = subst (λ (s : Transactions). IsTreeOf (items_after s) bare u) (sym same) b.stands.tree_is in
+      (same, one_tree (items_after xs) bare t u a.stands.tree_is other)
+
+pub images_super : (size : ℕ) (image : List (List ℕ)) (f g : Fields) (xs ys : Transactions) (t u : Tree) → IsImage size image f xs t → IsImage size image g ys u → f ≡ g
+images_super size image f g xs ys t u a b = one_super image f g a.chosen b.chosen
+
+pub images_same : (size : ℕ) (image : List (List ℕ)) (f g : Fields) (xs ys : Transactions) (t u : Tree) → IsImage size image f xs t → IsImage size image g ys u → (xs ≡ ys) × (t ≡ u)
+images_same size image f g xs ys t u a b =
+    let same : f ≡ g = images_super size image f g xs ys t u a b in
+    one_image size image f xs ys t u a (subst (λ (x : Fields). IsImage size image x ys u) (sym same) b)
