@@ -1,30 +1,21 @@
--- What a mounted disk keeps over its calls.
-use Rattle.std.proofs.Common.{◌≡◌, ◌≤◌, ℕ, Bool, length, arith}
+-- What a disk tells, and the superblock of the next generation.
+use Rattle.std.proofs.Common.{◌≡◌, ℕ, ◌+◌, ◌≤◌, List, arith}
 use Rattle.std.specs.Prelude.{Option, Some, None, IfSome, slice_index_or}
 use Rattle.fx_disk.specs.Record.{DiskRecord}
-use Rattle.fx_disk.specs.Steps.{Flushes, MadeOrNot}
 use Rattle.fx_super.specs.Super.{Fields, KeepsRules, IsLayer}
-use Rattle.fx_image.specs.Chosen.{ChoosesSince, ChoosesNext, next_generation}
-use Rattle.fx_image.proofs.Told.{told-flush, told-next}
-use Rattle.fx_mount.specs.Found.{HasRoomAbove}
-use Rattle.fx_mount.specs.Mounted.{KeepsSuper}
+use Rattle.fx_super.specs.declared.superblock.TheConstants.{MAX_GENERATION}
+use Rattle.fx_image.specs.Chosen.{next_generation}
 
 pub if-more : (o : Option DiskRecord) (P Q : DiskRecord → Type 0) → ((r : DiskRecord) → P r → Q r) → IfSome o P → IfSome o Q
 if-more None P Q f h = tt
 if-more (Some r) P Q f h = f r h
 
-pub keeps-both : (o : Option DiskRecord) (from : ℕ) → IfSome o (ChoosesSince from) → IfSome o (ChoosesNext from) → IfSome o (KeepsSuper from)
-keeps-both None from s n = tt
-keeps-both (Some r) from s n = record { since = s; now = n }
-
-pub keeps-flush : (before after : Option DiskRecord) (from m n : ℕ) (made ok : Bool) → MadeOrNot m n made ok (Flushes before after ok) (after ≡ before) → IfSome before (KeepsSuper from) → IfSome after (KeepsSuper from)
-keeps-flush before after from m n made ok d h = keeps-both after from
-    (told-flush before after from m n made ok d (if-more before (KeepsSuper from) (ChoosesSince from) (λ r k. k.since) h))
-    (told-next before after from m n made ok d (if-more before (KeepsSuper from) (λ r. from ≤ length r.calls) (λ r k. k.since.since) h)
-    (if-more before (KeepsSuper from) (ChoosesNext from) (λ r k. k.now) h))
+pub if-both : (o : Option DiskRecord) (P Q R : DiskRecord → Type 0) → ((r : DiskRecord) → P r → Q r → R r) → IfSome o P → IfSome o Q → IfSome o R
+if-both None P Q R f h k = tt
+if-both (Some r) P Q R f h k = f r h k
 
 -- the rules of a superblock hold of that of the next generation, where there is room above
-pub rules-next : (f : Fields) → KeepsRules f → HasRoomAbove f → KeepsRules (next_generation f)
+pub rules-next : (f : Fields) → KeepsRules f → f.generation + 1 ≤ MAX_GENERATION → KeepsRules (next_generation f)
 rules-next f h room = record {
   version_is = h.version_is;
   ring_least = h.ring_least;
@@ -32,7 +23,7 @@ rules-next f h room = record {
   blocks_least = h.blocks_least;
   blocks_most = h.blocks_most;
   generation_least = omega arith;
-  generation_most = omega (arith, room.generations);
+  generation_most = omega (arith, room);
   sequence_below = h.sequence_below;
   chain_fits = h.chain_fits;
   base_below = h.base_below;

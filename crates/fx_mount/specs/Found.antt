@@ -1,5 +1,5 @@
 -- What a mount finds on a disk: a superblock that it can go on from, or why not.
-use Rattle.std.specs.Prelude.{◌≡◌, ◌≢◌, ◌⊎◌, ℕ, ◌+◌, ◌<◌, ◌≤◌, ◌^◌, Option, Result, List, [], ◌∷◌, ◌++◌, slice_index_or}
+use Rattle.std.specs.Prelude.{◌≡◌, ◌≢◌, ◌⊎◌, ℕ, ◌+◌, ◌<◌, ◌≤◌, ◌^◌, Option, Result, List, [], ◌∷◌, ◌++◌, length, slice_index_or}
 use Rattle.std.specs.Option.{IfSome}
 use Rattle.fx_base.specs.Causes.{Rose}
 use Rattle.fx_disk.specs.Record.{DiskRecord}
@@ -7,9 +7,16 @@ use Rattle.fx_super.specs.declared.superblock.Super.{Super}
 use Rattle.fx_super.specs.declared.decode.SuperFault.{SuperFault}
 use Rattle.fx_super.specs.Super.{Fields, IsVersion, Decoded}
 use Rattle.fx_super.specs.Chosen.{HasNoChosen}
-use Rattle.fx_image.specs.Chosen.{Chooses}
+use Rattle.fx_plain.specs.Tree.{Tree}
+use Rattle.fx_namespace.specs.Wrong.{IsLeastWrong}
+use Rattle.fx_jblock.specs.declared.Start.{Start}
+use Rattle.fx_journal.specs.declared.stream.StreamBlock.{StreamBlock}
+use Rattle.fx_journal.specs.Stream.{IsStream}
+use Rattle.fx_record.specs.Txns.{IsTxns, IsBadRecord}
+use Rattle.fx_image.specs.Chosen.{Chooses, start_of, layers_of}
+use Rattle.fx_image.specs.Standing.{Transactions, IsImage, HasRoom, items_after, kept, pieces_of}
 use Rattle.fx_mount.specs.declared.fault.MountFault.{MountFault}
-use Rattle.fx_mount.specs.declared.fault.MountFault.TheVariants.{NoSuper, Version, DiskSize, BadLayer, Cramped, Device, OutOfMemory}
+use Rattle.fx_mount.specs.declared.fault.MountFault.TheVariants.{NoSuper, Version, DiskSize, BadLayer, BadRecord, BadTree, Cramped, Device, OutOfMemory}
 
 -- the two places of superblocks
 abbrev pub first_slot : List (List ℕ) → List ℕ
@@ -25,34 +32,37 @@ HasNoVersion block = (version : ℕ) → IsVersion block version → ⊥
 abbrev pub TellsVersion : List (List ℕ) → ℕ → Type 0
 TellsVersion image version = IsVersion (first_slot image) version ⊎ (HasNoVersion (first_slot image) × IsVersion (second_slot image) version)
 
--- The numbers leave room for a session: 2^40 below the bounds of counts, 2^23 below those of ids and stores.
-pub record HasRoomAbove (f : Fields) : Type 0 where
-  pub generations : f.generation + 2 ^ 40 ≤ 2 ^ 63
-  pub sequences : f.sequence + 2 ^ 40 ≤ 2 ^ 62
-  pub commits : f.base + 2 ^ 40 ≤ 2 ^ 62
-  pub ids : f.next_id + 2 ^ 23 ≤ 2 ^ 62
-  pub stores : f.next_store + 2 ^ 23 ≤ 2 ^ 31
-
--- the first blocks of all layers that a superblock names
-abbrev pub layers_of : Fields → List ℕ
-layers_of f = f.objects ++ f.allocs
-
--- In an image of a disk of so many blocks this superblock is chosen, and a session can go on from it.
-pub record IsMountable (size : ℕ) (image : List (List ℕ)) (f : Fields) : Type 0 where
+-- In an image of a disk of so many blocks this superblock is chosen, and it names no layer.
+pub record HasSuper (size : ℕ) (image : List (List ℕ)) (f : Fields) : Type 0 where
   pub slots : 2 ≤ size
   pub chosen : Chooses f image
   pub blocks : f.blocks ≡ size
   pub layers : layers_of f ≡ []
-  pub room : HasRoomAbove f
+
+-- A session can go on from the image: it has this superblock and these transactions, stands for this tree,
+-- and its numbers leave room.
+pub record IsMountable (size : ℕ) (image : List (List ℕ)) (f : Fields) (txns : Transactions) (tree : Tree) : Type 0 where
+  pub slots : 2 ≤ size
+  pub image_is : IsImage size image f txns tree
+  pub room : HasRoom f txns
+
+-- The superblock's stream is there.
+abbrev pub HasStream : List (List ℕ) → Fields → List StreamBlock → Type 0
+HasStream image f blocks = (next : Start) × IsStream image f.ring f.generation (start_of f) blocks next
+
+-- The chosen superblock's ring has so many blocks, and of it so many are live: those of the stream, and the next.
+abbrev pub HasRing : List (List ℕ) → ℕ → ℕ → Type 0
+HasRing image ring live = (f : Fields) (blocks : List StreamBlock) → Chooses f image → HasStream image f blocks → (ring ≡ f.ring) × (live ≡ length blocks + 1)
 
 -- What was read of the two places of superblocks is what stands there.
 pub record AreSlots (image : List (List ℕ)) (first second : Result Super SuperFault) : Type 0 where
   pub first_is : Decoded (first_slot image) first
   pub second_is : Decoded (second_slot image) second
 
--- The image of the record is such an image, with this base count.
-abbrev pub IsMountedAt : ℕ → ℕ → DiskRecord → Type 0
-IsMountedAt size base r = (f : Fields) × IsMountable size r.contents f × (f.base ≡ base)
+-- The image of the record is such an image, which stands for this tree, with these transactions, of which
+-- the last has this number.
+abbrev pub IsMountedAt : (size base : ℕ) → Transactions → Tree → DiskRecord → Type 0
+IsMountedAt size base txns opening r = (f : Fields) × IsMountable size r.contents f txns opening × (kept f txns ≡ base)
 
 -- The fault is the first that holds of the image.
 abbrev pub IsRefused : ℕ → List (List ℕ) → MountFault → Type 0
@@ -60,7 +70,10 @@ IsRefused size image NoSuper = (size < 2) ⊎ (HasNoChosen image × HasNoVersion
 IsRefused size image (Version version) = (2 ≤ size) × HasNoChosen image × TellsVersion image version
 IsRefused size image (DiskSize blocks) = (2 ≤ size) × (blocks ≡ size) × ((f : Fields) × Chooses f image × (f.blocks ≢ size))
 IsRefused size image (BadLayer at) = (2 ≤ size) × ((f : Fields) × Chooses f image × (f.blocks ≡ size) × ((rest : List ℕ) × (layers_of f ≡ at ∷ rest)))
-IsRefused size image (Cramped free) = (2 ≤ size) × (free ≡ 0) × ((f : Fields) × Chooses f image × (f.blocks ≡ size) × (layers_of f ≡ []) × (HasRoomAbove f → ⊥))
+IsRefused size image (BadRecord place) = (f : Fields) × (blocks : List StreamBlock) × HasSuper size image f × HasStream image f blocks × IsBadRecord f.base (pieces_of blocks) place
+IsRefused size image (BadTree store id) = (f : Fields) × (blocks : List StreamBlock) × (txns : Transactions) × HasSuper size image f × HasStream image f blocks
+    × IsTxns f.base (pieces_of blocks) txns × IsLeastWrong (items_after txns) (record { store = store; id = id })
+IsRefused size image (Cramped free) = (2 ≤ size) × (free ≡ 0) × ((f : Fields) × (txns : Transactions) × (tree : Tree) × IsImage size image f txns tree × (HasRoom f txns → ⊥))
 IsRefused size image Device = ⊥
 IsRefused size image OutOfMemory = ⊥
 

@@ -42,6 +42,13 @@ pub enum MountFault {
     /// The chosen superblock names layers, this block first. No layer can be read yet.
     #[error("the superblock names a layer at block {0}")]
     BadLayer(u32),
+    /// The record of the journal at this place, counted from 0, is none, or its number is out of order.
+    #[error("record {0} of the journal is bad")]
+    BadRecord(u32),
+    /// The items of the journal make no tree, and this is the least node, by store and id, at which
+    /// something is wrong.
+    #[error("the tree does not stand at node {id} of store {store}")]
+    BadTree { store: u32, id: u64 },
     /// A number of the image is too close to its bound for a session (0).
     #[error("the image has too little room, {0} free blocks")]
     Cramped(u32),

@@ -4,8 +4,8 @@ ghost use Rattle.std.specs.Option.{IfSome};
 ghost use Rattle.fx_base.specs.Causes.{Rose};
 ghost use Rattle.fx_super.specs.Super.{Decoded, KeepsRules, fields_of};
 ghost use Rattle.fx_super.specs.Chosen.{IsChosen};
-ghost use Rattle.fx_image.specs.Chosen.{Chooses};
-ghost use Rattle.fx_mount.specs.Found.{AreSlots, HasRoomAbove, IsMountable, IsMountCause, IsRefused, first_slot, layers_of, second_slot};
+ghost use Rattle.fx_image.specs.Chosen.{Chooses, layers_of};
+ghost use Rattle.fx_mount.specs.Found.{AreSlots, HasSuper, IsMountCause, IsRefused, first_slot, second_slot};
 
 use crate::fault::MountFault;
 use crate::format::zero_block;
@@ -17,20 +17,6 @@ use fx_super::{Super, SuperFault, Which, choose, decode_super};
 pub(crate) struct Found {
     pub(crate) sup: Super,
     pub(crate) chosen: Which,
-}
-
-/// Whether the numbers leave room for a session.
-fn has_room_above(sup: &Super) -> bool
-    requires { KeepsRules (fields_of sup.now) }
-    ensures { IsTrue result ↔ HasRoomAbove (fields_of sup.now) }
-{
-    const COUNTS: u64 = 1 << 40;
-    const IDS: u64 = 1 << 23;
-    sup.generation + COUNTS <= 1 << 63
-        && sup.sequence + COUNTS <= 1 << 62
-        && sup.base + COUNTS <= 1 << 62
-        && sup.next_id + IDS <= 1 << 62
-        && u64::from(sup.next_store) + IDS <= 1 << 31
 }
 
 /// The first layer that the superblock names.
@@ -105,7 +91,6 @@ fn check(sup: &Super, blocks: u32) -> Result<(), MountFault>
     requires { KeepsRules (fields_of sup.now) }
     ensures size { OnOk result (sup.now.blocks ≡ blocks) }
     ensures layers { OnOk result (layers_of (fields_of sup.now) ≡ []) }
-    ensures room { OnOk result (HasRoomAbove (fields_of sup.now)) }
     ensures refused { IfErr result (λ fault. (image : List (List ℕ)) → 2 ≤ blocks → Chooses (fields_of sup.now) image → IsRefused blocks image fault) }
 {
     if sup.blocks != blocks {
@@ -113,9 +98,6 @@ fn check(sup: &Super, blocks: u32) -> Result<(), MountFault>
     }
     if let Some(layer) = first_layer(sup) {
         return Err(MountFault::BadLayer(layer));
-    }
-    if !has_room_above(sup) {
-        return Err(MountFault::Cramped(0));
     }
     Ok(())
 }
@@ -137,8 +119,10 @@ fn read_slot<D: Disk>(disk: &mut D, at: u32) -> Result<Result<Super, SuperFault>
 
 /// The chosen superblock of the disk, where a session can go on from it. Makes two reads.
 pub(crate) fn find<D: Disk>(disk: &mut D) -> Result<Found, MountFault>
-    ensures found { IfOk result (λ it. IfSome (D.told disk.old) (λ r. IsMountable (D.size disk.old) r.contents (fields_of it.sup) × IsChosen r.contents it.chosen (fields_of it.sup))) }
-    ensures rules { IfOk result (λ it. KeepsRules (fields_of it.sup) × HasRoomAbove (fields_of it.sup)) }
+    ensures found { IfOk result (λ it. IfSome (D.told disk.old) (λ r. HasSuper (D.size disk.old) r.contents (fields_of it.sup) × IsChosen r.contents it.chosen (fields_of it.sup))) }
+    ensures rules { IfOk result (λ it. KeepsRules (fields_of it.sup)) }
+    ensures blocks { IfOk result (λ it. it.sup.blocks ≡ D.size disk.old) }
+    ensures layers { IfOk result (λ it. layers_of (fields_of it.sup) ≡ []) }
     ensures slots { OnOk result (2 ≤ D.size disk.old) }
     ensures cause { IfErr result (IsMountCause (D.size disk.old) (D.told disk.old) (D.faults disk.old) (D.faults disk.new)) }
     ensures told { D.told disk.new ≡ D.told disk.old }

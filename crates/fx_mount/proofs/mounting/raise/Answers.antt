@@ -2,7 +2,8 @@ use Rattle.std.specs.Prelude.{IfSome}
 use Rattle.std.proofs.lemmas.Result.{on_ok_weaker}
 use Rattle.fx_super.specs.Super.{Fields, IsSuper, fields_of}
 use Rattle.fx_super.specs.Chosen.{IsChosen}
-use Rattle.fx_image.specs.Chosen.{ChoosesNext, next_generation}
+use Rattle.fx_image.specs.Chosen.{next_generation}
+use Rattle.fx_image.specs.Raising.{ChoosesNext}
 use Rattle.fx_mount.proofs.Keeps.{rules-next}
 use Rattle.fx_mount.proofs.mounting.raise.Goals as goal
 
@@ -19,3 +20,8 @@ returns-clause-next g c =
     → IfSome (g.D.Disk.told c.put_super.new.disk) (ChoosesNext (g.D.Disk.calls c.args.disk.now))).
     next f (c.encode_super.ensures.form (rules-next f c.requires.rules c.requires.room)) c.requires.chosen)
     c.put_super.ensures.next
+
+pub returns-clause-journal : goal.returns-clause-journal
+returns-clause-journal g c read fits on =
+    let f : Fields = fields_of c.args.found.now.sup in
+    c.put_super.ensures.journal f read (c.encode_super.ensures.form (rules-next f c.requires.rules c.requires.room)) fits c.requires.chosen on

@@ -1,0 +1,47 @@
+use Rattle.std.proofs.Common.{◌≡◌, ◌+◌, ◌<◌, ◌≤◌, ◌∷◌, [], ◌++◌, List, ℕ, length, sym, ap, subst, ◌∙◌, arith, rules}
+use Rattle.std.specs.Prelude.{Some, slice_get}
+use Rattle.std.proofs.lemmas.List.{length_push}
+use Rattle.std.proofs.lemmas.Option.{slice_get-get_or}
+use Rattle.std.proofs.lemmas.Iterator.Adapters.{YieldsList-from_vec}
+use Rattle.std.proofs.lemmas.Iterator.Consumers.{YieldsList-turn, YieldsList-end}
+use Rattle.fx_plain.specs.Tree.{Tree}
+use Rattle.fx_nodes.specs.declared.walk.TreeNode.{TreeNode}
+use Rattle.fx_mount.specs.Growing.{HasNodes, HasPaths}
+use Rattle.fx_mount.specs.Nodes.{NodeTable}
+use Rattle.fx_mount.proofs.Growing.{none_yet, no_paths, one_more, one_path_more, may_stand, stands_at}
+use Rattle.fx_mount.proofs.reading.grow.Goals as goal
+use Rattle.fx_mount.proofs.reading.grow.Goals.{In-Some}
+
+pub loop-node-init : goal.loop-node-init
+loop-node-init c = record {
+  tree = subst (λ (t : Tree). HasNodes c.args.nodes 0 t) (sym c.in_ok-tree.ensures) (none_yet c.args.nodes c.requires);
+  paths = subst (λ (t : NodeTable). HasPaths c.args.nodes 0 t) (sym c.in_ok-paths.ensures) (no_paths c.args.nodes);
+}
+
+here : (c : In-Some) → slice_get c.args.nodes (length c.loop-node.yielded) ≡ Some c.in-Some.node
+here c =
+    let all = YieldsList-from_vec {s = c.into_iter-node-iterator.result} c.args.nodes (search rules) (search rules) in
+    let turn = YieldsList-turn all c.loop-node.yielded c.loop-node.node-iterator c.loop-node.yielded_by c.next.result c.next.new.self c.in-Some.node c.in-Some.is c.next.ensures.steps in
+    stands_at c.args.nodes (length c.loop-node.yielded) c.in-Some.node turn.0 turn.1
+
+pub loop-node-preserved : goal.loop-node-preserved
+loop-node-preserved c = record {
+  tree = subst (λ (n : ℕ). HasNodes c.args.nodes n c.add_node.new.tree) (sym (length_push c.loop-node.yielded c.in-Some.node))
+      (subst (λ (t : Tree). HasNodes c.args.nodes (length c.loop-node.yielded + 1) t) (sym c.in_ok-add_node.ensures.tree)
+      (one_more c.args.nodes c.requires (length c.loop-node.yielded) c.in-Some.node c.loop-node.tree (here ((goal.at.loop-node-preserved c).In-Some)) c.loop-node.invariant.tree));
+  paths = subst (λ (n : ℕ). HasPaths c.args.nodes n c.add_node.new.paths) (sym (length_push c.loop-node.yielded c.in-Some.node))
+      (subst (λ (t : NodeTable). HasPaths c.args.nodes (length c.loop-node.yielded + 1) t) (sym c.in_ok-add_node.ensures.paths)
+      (one_path_more c.args.nodes c.requires (length c.loop-node.yielded) c.in-Some.node c.loop-node.paths (here ((goal.at.loop-node-preserved c).In-Some)) c.loop-node.invariant.paths));
+}
+
+pub add_node-requires : goal.add_node-requires
+add_node-requires c = may_stand c.args.nodes c.requires (length c.loop-node.yielded) c.in-Some.node c.loop-node.tree (here ((goal.at.add_node-requires c).In-Some)) c.loop-node.invariant.tree
+
+pub returns : goal.returns
+returns c =
+    let all = YieldsList-from_vec {s = c.into_iter-node-iterator.result} c.args.nodes (search rules) (search rules) in
+    let end = YieldsList-end all c.loop-node.yielded c.loop-node.node-iterator c.loop-node.yielded_by c.next.result c.next.new.self c.in-None.is c.next.ensures.steps in
+    record {
+      tree = subst (λ (n : ℕ). HasNodes c.args.nodes n c.loop-node.tree) end.1 c.loop-node.invariant.tree;
+      nodes = subst (λ (n : ℕ). HasPaths c.args.nodes n c.loop-node.paths) end.1 c.loop-node.invariant.paths;
+    }
