@@ -1,5 +1,5 @@
 -- What the words of `mkfs` tell of its ring.
-use Rattle.std.proofs.Common.{◌≡◌, ℕ, ◌<◌, ◌≤◌, ◌^◌, ◌&&◌, Bool, true, false, List, [], ◌∷◌, refl, sym, arith, length, cond}
+use Rattle.std.proofs.Common.{◌≡◌, ℕ, ◌<◌, ◌≤◌, ◌^◌, ◌&&◌, Bool, true, false, List, [], ◌∷◌, refl, arith, length}
 use Rattle.std.specs.Prelude.{Option, Some, None, nat_le, nat_lt, nat_eq, take, drop, codes, if◌then◌else◌}
 use Rattle.std.specs.Cmp.Lexicographic.{pointwise}
 use Rattle.std.specs.Str.{bytes_eq}
@@ -14,7 +14,7 @@ use Rattle.std.proofs.lemmas.Result.{OkIff-at_err}
 use Rattle.std.proofs.lemmas.Str.Parse.{parse_digits}
 use Rattle.fx_script.proofs.Numbers.{are_digits, own}
 use Rattle.fxfs.specs.declared.command.Command.{Command}
-use Rattle.fxfs.specs.declared.command.Command.TheVariants.{Shell, Mkfs}
+use Rattle.fxfs.specs.declared.command.Command.TheVariants.{Mkfs}
 use Rattle.fxfs.specs.declared.command.TheConstants.{MIN_RING, MAX_RING, MOST_DIGITS}
 use Rattle.fxfs.specs.Command.{is_count, is_ring, mkfs_with, mkfs_of, shell_of, command_of}
 

@@ -1,21 +1,26 @@
 -- The lines of a source, and what is done with them.
-use Rattle.std.specs.Prelude.{◌≡◌, ◌⊎◌, ℕ, ◌≤◌, ◌+◌, ◌++◌, List, Option, Ok, Err, false, length}
+use Rattle.std.specs.Prelude.{◌≡◌, ◌⊎◌, ℕ, ◌<◌, ◌≤◌, ◌+◌, ◌++◌, Bool, true, false, All, List, Option, Some, Ok, Err, length, slice_get}
 use Rattle.std.specs.Io.KnownBytes.{IsAtEnd}
 use Rattle.std.specs.Option.{IfSome}
 use Rattle.fx_base.specs.Causes.{Rose}
+use Rattle.fx_image.specs.Standing.{Transactions}
 use Rattle.fx_io.specs.Told.{Gives, GivesCount, GivesAtMost}
-use Rattle.fx_plain.specs.Tree.{root}
 use Rattle.fx_script.specs.declared.script.Task.{Task}
 use Rattle.fx_script.specs.declared.fault.LineFault.{LineFault}
 use Rattle.fx_script.specs.declared.script.ScriptFault.TheVariants as faults
 use Rattle.fx_script.specs.Script.{script_of}
+use Rattle.fx_history.specs.declared.entry.Entry.{Entry}
+use Rattle.fx_history.specs.declared.outcome.EndKind.TheVariants as ends
 use Rattle.fx_history.specs.Outcome.{LineEnd}
+use Rattle.fx_history.specs.History.{settle}
 use Rattle.fx_history.specs.Text.{result_text}
+use Rattle.fx_mount.specs.Mounted.{KeepsWhole}
+use Rattle.fx_mount.specs.Calls.{IsFlushedBy, HasFailedLast}
 use Rattle.fxfs.specs.declared.ended.Stop.{Stop}
 use Rattle.fxfs.specs.declared.ended.Stop.TheVariants as stops
 use Rattle.fxfs.specs.declared.shell.TheConstants.{MAX_INPUT}
 use Rattle.fxfs.specs.Stop.{stop_line}
-use Rattle.fxfs.specs.Outside.{StreamSeen, Prints, FailsIn, PrintsOrFails}
+use Rattle.fxfs.specs.Outside.{DiskSeen, StreamSeen, End, Prints, FailsIn, PrintsOrFails}
 
 -- All bytes of the source were read, and there are not too many.
 pub record IsInput (before now : Option (List ℕ)) (bytes : List ℕ) : Type 0 where
@@ -61,7 +66,65 @@ abbrev pub TellsUnsynced : StreamSeen → StreamSeen → List Task → List Line
 TellsUnsynced before after tasks outcomes =
     PrintsOrFails before after (result_text tasks outcomes ++ stop_line stops.Device) ⊎ PrintsOrFails before after (stop_line stops.Device)
 
--- What was done once the lines were run, by why the command stopped: the disk was flushed, or it failed; and this was printed.
-abbrev pub Finishes : ℕ → ℕ → ℕ → ℕ → StreamSeen → StreamSeen → List Task → List LineEnd → Stop → Type 0
-Finishes calls_before calls_after faults_before faults_after before after tasks outcomes stops.Device = Rose faults_before faults_after × TellsUnsynced before after tasks outcomes
-Finishes calls_before calls_after faults_before faults_after before after tasks outcomes stop = (calls_after ≡ calls_before + 1) × Tells before after tasks outcomes stop
+-- What is printed once the lines were run, by whether the disk was flushed, and why the command stopped.
+abbrev pub TellsEnd : Bool → StreamSeen → StreamSeen → List Task → List LineEnd → Stop → Type 0
+TellsEnd true before after tasks outcomes stop = Tells before after tasks outcomes stop
+TellsEnd false before after tasks outcomes stop = (stop ≡ stops.Device) × TellsUnsynced before after tasks outcomes
+
+-- A further call was made, and the last one is a flush that was good: it settled the history, and every image
+-- left now has all of it.
+pub record WasFlushed (from : ℕ) (txns : Transactions) (before after : DiskSeen) (base : ℕ) (old new : List Entry) : Type 0 where
+  pub more : before.calls < after.calls
+  pub flushed : IsFlushedBy after.calls after.calls after.told
+  pub settles : new ≡ settle after.calls old
+  pub whole : IfSome after.told (KeepsWhole after.size from txns base new)
+
+-- The disk failed, and nothing was settled: the call that was last asked for was not made, or is the last one
+-- and failed.
+pub record WasNotFlushed (before after : DiskSeen) (old new : List Entry) : Type 0 where
+  pub rose : Rose before.faults after.faults
+  pub failed : HasFailedLast after.last_made after.told
+  pub unsettled : new ≡ old
+
+-- The one or the other, with the history before and after it.
+abbrev pub Syncs : Bool → ℕ → Transactions → DiskSeen → DiskSeen → ℕ → List Entry → List Entry → Type 0
+Syncs true from txns before after base old new = WasFlushed from txns before after base old new
+Syncs false from txns before after base old new = WasNotFlushed before after old new
+
+-- What was made was flushed by the last call, a further one, and every image left now stands for the tree after
+-- all of it.
+pub record IsFlushed (from : ℕ) (txns : Transactions) (before after : DiskSeen) (base : ℕ) (history : List Entry) : Type 0 where
+  pub more : before.calls < after.calls
+  pub flushed : IsFlushedBy after.calls after.calls after.told
+  pub settled : All (λ entry. 0 < entry.settled) history
+  pub whole : IfSome after.told (KeepsWhole after.size from txns base history)
+
+-- The disk failed: the call that was last asked for was not made, or is the last one and failed.
+pub record IsUnflushed (before after : DiskSeen) : Type 0 where
+  pub rose : Rose before.faults after.faults
+  pub failed : HasFailedLast after.last_made after.told
+
+-- What was made was flushed, or the disk failed in that.
+abbrev pub Flushes : Bool → ℕ → Transactions → DiskSeen → DiskSeen → ℕ → List Entry → Type 0
+Flushes true from txns before after base history = IsFlushed from txns before after base history
+Flushes false from txns before after base history = IsUnflushed before after
+
+-- What was made was flushed by a last call, which, where the disk tells its calls, is a later one than those
+-- of the mount and of each line `sync`.
+pub record HasFlushedAfter (from : ℕ) (txns : Transactions) (before after : DiskSeen) (end : End) : Type 0 where
+  pub flushed : IsFlushedBy after.calls after.calls after.told
+  pub settled : All (λ entry. 0 < entry.settled) end.history
+  pub whole : IfSome after.told (KeepsWhole after.size from txns end.base end.history)
+  pub more : IfSome after.told (λ r. before.calls < after.calls)
+  pub below : (i : ℕ) (line : LineEnd) (calls : ℕ) → slice_get end.outcomes i ≡ Some line → line.kind ≡ ends.Synced calls → IfSome after.told (λ r. calls < after.calls)
+
+-- The disk failed once more after all faults that lines tell.
+pub record HasFailedAfter (before after : DiskSeen) (outcomes : List LineEnd) : Type 0 where
+  pub fails : IsUnflushed before after
+  pub above : (i : ℕ) (line : LineEnd) (count : ℕ) → slice_get outcomes i ≡ Some line → line.kind ≡ ends.DeviceFault count → Rose count after.faults
+
+-- What was done once the lines were run on a disk that was mounted after so many calls with these
+-- transactions, by why the command stopped: it was flushed, or it failed; and this was printed.
+abbrev pub Finishes : ℕ → Transactions → DiskSeen → DiskSeen → StreamSeen → StreamSeen → List Task → End → Stop → Type 0
+Finishes from txns disk_before disk_after before after tasks end stops.Device = HasFailedAfter disk_before disk_after end.outcomes × TellsUnsynced before after tasks end.outcomes
+Finishes from txns disk_before disk_after before after tasks end stop = HasFlushedAfter from txns disk_before disk_after end × Tells before after tasks end.outcomes stop

@@ -1,6 +1,5 @@
 -- What a command sees of the disk and of the two streams, and how it ends.
-use Rattle.std.specs.Prelude.{◌≡◌, ◌⊎◌, ℕ, ◌≤◌, List, [], Option, length}
-use Rattle.std.specs.Io.KnownBytes.{IsAtEnd}
+use Rattle.std.specs.Prelude.{◌≡◌, ◌⊎◌, ℕ, ◌≤◌, Bool, List, [], Option}
 use Rattle.fx_base.specs.Causes.{Rose}
 use Rattle.fx_disk.specs.Record.{DiskRecord}
 use Rattle.fx_image.specs.Longer.{Extends}
@@ -10,12 +9,14 @@ use Rattle.fx_history.specs.Outcome.{LineEnd}
 use Rattle.fxfs.specs.declared.ended.Stop.{Stop}
 use Rattle.fxfs.specs.Stop.{stop_line}
 
--- A disk: its blocks, its record where it tells it, its writes and flushes, and its faults.
+-- A disk: its blocks, its record where it tells it, its writes and flushes, its faults, and whether the
+-- write or flush that was last asked for was made.
 pub record DiskSeen : Type 0 where
   pub size : ℕ
   pub told : Option DiskRecord
   pub calls : ℕ
   pub faults : ℕ
+  pub last_made : Bool
 
 -- A source or a sink: the bytes that are left or were taken, where it tells them, and its faults.
 pub record StreamSeen : Type 0 where

@@ -1,52 +1,105 @@
 -- What `shell` does.
-use Rattle.std.specs.Prelude.{◌≡◌, ◌⊎◌, ℕ, ◌≤◌, ◌+◌, All, List}
+use Rattle.std.specs.Prelude.{◌≡◌, ◌⊎◌, ℕ, ◌<◌, ◌≤◌, ◌+◌, ◌-◌, ◌^◌, min, All, List, [], Option, Some, count_by, slice_get}
 use Rattle.std.specs.Option.{IfSome}
+use Rattle.fx_disk.specs.Record.{DiskRecord, call_at}
+use Rattle.fx_disk.specs.Loose.{IsGoodFlush}
 use Rattle.fx_base.specs.Causes.{Rose}
-use Rattle.fx_disk.specs.Record.{DiskRecord}
-use Rattle.fx_image.specs.Chosen.{ChoosesSince, ChoosesNext}
+use Rattle.fx_image.specs.Raising.{ChoosesSince, ChoosesNext}
+use Rattle.fx_image.specs.Standing.{Transactions}
+use Rattle.fx_image.specs.Prefix.{KeepsPrefix, KeepsAll}
 use Rattle.fx_io.specs.Told.{GivesAtMost}
-use Rattle.fx_plain.specs.Tree.{root}
+use Rattle.fx_plain.specs.Tree.{Tree}
+use Rattle.fx_journal.specs.declared.ring.Full.{Full}
 use Rattle.fx_script.specs.declared.script.Task.{Task}
-use Rattle.fx_history.specs.Transcript.{Session}
+use Rattle.fx_history.specs.declared.outcome.EndKind.TheVariants as ends
+use Rattle.fx_history.specs.Outcome.{LineEnd}
+use Rattle.fx_history.specs.Transcript.{Session, is_fault}
 use Rattle.fx_mount.specs.declared.fault.MountFault.{MountFault}
 use Rattle.fx_mount.specs.declared.fault.MountFault.TheVariants as mounts
-use Rattle.fx_mount.specs.Found.{IsMountedAt, IsRefused}
+use Rattle.fx_mount.specs.Found.{HasRing, IsMountedAt, IsRefused}
+use Rattle.fx_mount.specs.Mounted.{Opens}
+use Rattle.fx_mount.specs.Calls.{IsFlushedBy, HasFailedLast}
 use Rattle.fxfs.specs.declared.ended.Stop.{Stop}
 use Rattle.fxfs.specs.declared.ended.Stop.TheVariants as stops
 use Rattle.fxfs.specs.declared.shell.TheConstants.{MAX_INPUT}
-use Rattle.fxfs.specs.Outside.{DiskSeen, StreamSeen, Outside, End, IsStopped, IsUntouched, GoesOn}
+use Rattle.fxfs.specs.Outside.{DiskSeen, Outside, End, IsStopped, IsUntouched, GoesOn}
 use Rattle.fxfs.specs.Lines.{Spells, IsScript, IsNoScript, Tells, TellsUnsynced}
 
--- No line was run, and nothing was written to the disk.
+-- No line was run, and nothing was written to the disk. Every image left stands for the tree that it was.
 pub record HasNotRun (before after : Outside) (end : End) : Type 0 where
   pub stopped : IsStopped before.sink after.sink end
   pub untouched : IsUntouched before.disk after.disk
+  pub prefix : (opening : Tree) (base : ℕ) → IfSome after.disk.told (KeepsPrefix after.disk.size before.disk.calls opening base [])
 
--- The source spells lines, and the disk was not mounted, for it failed in that.
+-- The source spells lines, and the disk was not mounted, for it failed in that. Every image left stands for
+-- the tree that it was.
 pub record HasNotMounted (before after : Outside) (end : End) : Type 0 where
   pub stopped : IsStopped before.sink after.sink end
   pub spelled : IsScript before.source.bytes after.source.bytes
   pub calls : after.disk.calls ≤ before.disk.calls + 2
+  pub prefix : (opening : Tree) (base : ℕ) → IfSome after.disk.told (KeepsPrefix after.disk.size before.disk.calls opening base [])
 
--- The lines that the source spells were run, one after another from the root alone, on a disk that was
--- mounted with so many commits; since the mount every image left has the superblock of the next generation.
+-- How many lines ended at a fault of the disk, and the counts that they tell: its count of faults rose as
+-- often, unless it stands at its end.
+pub record AreFaults (before after : ℕ) (outcomes : List LineEnd) : Type 0 where
+  pub counted : min (before + count_by (λ o. is_fault o.kind) outcomes) (2 ^ 64 - 1) ≤ after
+  pub each : (i : ℕ) (end : LineEnd) (count : ℕ) → slice_get outcomes i ≡ Some end → end.kind ≡ ends.DeviceFault count → Rose before count × (count ≤ after)
+
+-- A sync that was done once the disk had made the first calls, and before it had made more than the last:
+-- the last of so many calls is a flush that was good.
+pub record IsSync (first last calls : ℕ) (r : DiskRecord) : Type 0 where
+  pub later : first < calls
+  pub within : calls ≤ last
+  pub flushed : (place : ℕ) → calls ≡ place + 1 → IsGoodFlush (call_at r.calls place)
+
+-- Each count of calls that a line `sync` tells is that of a sync, where the disk tells its calls.
+abbrev pub AreSyncs : ℕ → ℕ → Option DiskRecord → List LineEnd → Type 0
+AreSyncs first last told outcomes =
+    (i : ℕ) (end : LineEnd) (calls : ℕ) → slice_get outcomes i ≡ Some end → end.kind ≡ ends.Synced calls → IfSome told (IsSync first last calls)
+
+-- A line is full only where the ring's blocks are fewer than those of the image's stream, one for each
+-- commit since, and three.
+abbrev pub AreFull : ℕ → ℕ → ℕ → List LineEnd → Type 0
+AreFull ring live base outcomes =
+    (i : ℕ) (end : LineEnd) (full : Full) → slice_get outcomes i ≡ Some end → end.kind ≡ ends.Full full → ring + base < live + end.at + 2
+
+-- The lines that the source spells were run, one after another, on a disk that was mounted with these
+-- transactions, the last of which has the number `base`, from the tree on that they make. Every image left at
+-- every moment stands for the tree after a prefix of the history that has what was settled, and since the
+-- mount, which makes two calls, each has the superblock of the next generation.
 pub record HasRun (before after : Outside) (end : End) (tasks : List Task) : Type 0 where
   pub spelled : Spells before.source.bytes after.source.bytes tasks
-  pub mounted : IfSome before.disk.told (IsMountedAt before.disk.size end.base)
-  pub session : Session root end.base end.history tasks end.outcomes
+  pub txns : Transactions
+  pub opening : Tree
+  pub opens : Opens txns opening
+  pub mounted : IfSome before.disk.told (IsMountedAt before.disk.size end.base txns opening)
+  pub session : Session opening end.base end.history tasks end.outcomes
   pub next : IfSome after.disk.told (ChoosesNext before.disk.calls)
+  pub prefix : IfSome after.disk.told (KeepsPrefix after.disk.size before.disk.calls opening end.base end.history)
+  pub faults : AreFaults before.disk.faults after.disk.faults end.outcomes
+  pub syncs : AreSyncs (before.disk.calls + 2) after.disk.calls after.disk.told end.outcomes
+  pub full : IfSome before.disk.told (λ r. (ring live : ℕ) → HasRing r.contents ring live → AreFull ring live end.base end.outcomes)
 
--- They were run, the disk was flushed at the third of three calls, and what was printed tells it.
+-- They were run, and what was made was flushed by the last call, so that every image left stands for the
+-- tree after the whole history; and what was printed tells it. Where the disk tells its calls, that flush comes
+-- after the two calls of the mount and after each that a line `sync` tells.
 pub record HasSynced (before after : Outside) (end : End) : Type 0 where
   pub tasks : List Task
   pub ran : HasRun before after end tasks
-  pub calls : after.disk.calls ≡ before.disk.calls + 3
+  pub flushed : IsFlushedBy after.disk.calls after.disk.calls after.disk.told
+  pub more : IfSome after.disk.told (λ r. before.disk.calls + 3 ≤ after.disk.calls)
+  pub below : (i : ℕ) (line : LineEnd) (calls : ℕ) → slice_get end.outcomes i ≡ Some line → line.kind ≡ ends.Synced calls → IfSome after.disk.told (λ r. calls < after.disk.calls)
+  pub settled : All (λ entry. 0 < entry.settled) end.history
+  pub whole : IfSome after.disk.told (KeepsAll after.disk.size before.disk.calls ran.opening end.base end.history)
   pub tells : Tells before.sink after.sink tasks end.outcomes end.stop
 
--- They were run, and the flush after them failed.
+-- They were run, and the writes or the flush after them failed: the call that was last asked for was not
+-- made, or is the last one and failed.
 pub record HasNotSynced (before after : Outside) (end : End) : Type 0 where
   pub tasks : List Task
   pub ran : HasRun before after end tasks
+  pub failed : HasFailedLast after.disk.last_made after.disk.told
+  pub above : (i : ℕ) (line : LineEnd) (count : ℕ) → slice_get end.outcomes i ≡ Some line → line.kind ≡ ends.DeviceFault count → Rose count after.disk.faults
   pub tells : TellsUnsynced before.sink after.sink tasks end.outcomes
 
 -- The first fault that the image has. A disk that failed, and want of memory, are told as causes of their own.
@@ -64,15 +117,14 @@ ShellDid before after end stops.Device = Rose before.disk.faults after.disk.faul
 ShellDid before after end (stops.NotMounted fault) = HasNotRun before after end × IsScript before.source.bytes after.source.bytes × IsNoImage before.disk fault
 ShellDid before after end stop = HasNotRun before after end × IsNoScript before.source after.source stop
 
--- What `shell` does, and what holds however it stopped: it makes at most three calls, every image left at
--- every moment that is not there by chance has the superblock chosen at entry or that of the next
--- generation, nothing is settled yet, and of the source it takes at most one byte more than a script has.
+-- What `shell` does, and what holds however it stopped: every image left at every moment that is not there
+-- by chance has the superblock chosen at entry or that of the next generation, no entry is settled by a later
+-- call than were made, and of the source it takes at most one byte more than a script has.
 pub record ShellEnds (before after : Outside) (end : End) : Type 0 where
   pub did : ShellDid before after end end.stop
   pub disk : GoesOn before.disk after.disk
-  pub calls : after.disk.calls ≤ before.disk.calls + 3
   pub images : IfSome after.disk.told (ChoosesSince before.disk.calls)
-  pub settled : All (λ entry. entry.settled ≡ 0) end.history
+  pub settled : All (λ entry. entry.settled ≤ after.disk.calls) end.history
   pub source : GivesAtMost before.source.bytes after.source.bytes (MAX_INPUT + 1)
   pub source_faults : before.source.faults ≤ after.source.faults
   pub sink_faults : before.sink.faults ≤ after.sink.faults

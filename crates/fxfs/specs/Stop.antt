@@ -24,12 +24,18 @@ status_of (DiskTooSmall blocks) = 11
 abbrev pub numbered_line : List ℕ → ℕ → List ℕ
 numbered_line words number = words ++ decimal number ++ codes "\n"
 
+-- a line of words that end in two numbers
+abbrev pub twice_numbered_line : List ℕ → ℕ → ℕ → List ℕ
+twice_numbered_line words first second = words ++ decimal first ++ codes " " ++ decimal second ++ codes "\n"
+
 -- the line that tells why a disk was not mounted; none for what is told as another cause
 abbrev pub mount_line : MountFault → List ℕ
 mount_line mounts.NoSuper = codes "stop 3 nosuper\n"
 mount_line (mounts.Version version) = numbered_line (codes "stop 3 version ") version
 mount_line (mounts.DiskSize blocks) = numbered_line (codes "stop 3 disksize ") blocks
 mount_line (mounts.BadLayer block) = numbered_line (codes "stop 3 badlayer ") block
+mount_line (mounts.BadRecord place) = numbered_line (codes "stop 3 badrecord ") place
+mount_line (mounts.BadTree store id) = twice_numbered_line (codes "stop 3 badtree ") store id
 mount_line (mounts.Cramped free) = numbered_line (codes "stop 3 cramped ") free
 mount_line mounts.Device = []
 mount_line mounts.OutOfMemory = []
@@ -53,4 +59,4 @@ stop_line (DiskTooSmall blocks) = numbered_line (codes "stop 11 size ") blocks
 
 -- the line of a disk that was formatted: its blocks and those of its ring
 abbrev pub mkfs_line : ℕ → ℕ → List ℕ
-mkfs_line blocks ring = codes "mkfs " ++ decimal blocks ++ codes " " ++ decimal ring ++ codes "\n"
+mkfs_line blocks ring = twice_numbered_line (codes "mkfs ") blocks ring

@@ -1,5 +1,5 @@
 -- What the top call does.
-use Rattle.std.specs.Prelude.{◌≡◌, ◌⊎◌, List, ℕ, Option, Some, None}
+use Rattle.std.specs.Prelude.{◌≡◌, ℕ, Option, Some, None}
 use Rattle.fxfs.specs.declared.command.Command.{Command}
 use Rattle.fxfs.specs.declared.command.Command.TheVariants.{Shell, Mkfs}
 use Rattle.fxfs.specs.declared.ended.Stop.TheVariants as stops

@@ -65,7 +65,7 @@ pub struct Ended<D> {
     pub stop: Stop,
     /// The disk.
     pub disk: D,
-    /// The number of commits at the mount; 0 where no line was run.
+    /// The number of the last commit at the mount; 0 where no line was run.
     pub base: u64,
     /// What was committed since.
     pub history: History,

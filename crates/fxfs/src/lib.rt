@@ -8,7 +8,6 @@ mod image;
 mod line;
 mod mkfs;
 mod shell;
-mod text;
 mod top;
 
 pub use command::{Command, MAX_RING, MIN_RING, WordsFault, command_of};

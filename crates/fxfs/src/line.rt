@@ -4,7 +4,7 @@ ghost use Rattle.std.specs.Fmt.{decimal};
 ghost use Rattle.arrayvec.specs.ArrayString.{array_string_len};
 ghost use Rattle.fx_base.specs.Causes.{Rose};
 ghost use Rattle.fx_io.specs.Told.{Takes, TakesFront};
-ghost use Rattle.fxfs.specs.Stop.{bad_line, mkfs_line, mount_line, numbered_line, stop_line};
+ghost use Rattle.fxfs.specs.Stop.{bad_line, mkfs_line, mount_line, numbered_line, stop_line, twice_numbered_line};
 
 use crate::ended::Stop;
 use arrayvec::ArrayString;
@@ -16,11 +16,11 @@ use itoa::Buffer;
 /// A line of at most 64 bytes.
 type ShortLine = ArrayString<64>;
 
-/// Appends a number, of at most 10 digits.
-fn push_number(line: &mut ShortLine, number: u32)
-    requires { array_string_len line.old + 10 ≤ 64 }
+/// Appends a number, of at most 20 digits.
+fn push_number(line: &mut ShortLine, number: u64)
+    requires { array_string_len line.old + 20 ≤ 64 }
     ensures bytes { line.new.bytes ≡ line.old.bytes ++ decimal number }
-    ensures len { array_string_len line.new ≤ array_string_len line.old + 10 }
+    ensures len { array_string_len line.new ≤ array_string_len line.old + 20 }
 {
     let mut digits = Buffer::new();
     line.push_str(digits.format(number));
@@ -33,7 +33,21 @@ fn numbered_line(words: &str, number: u32) -> ShortLine
 {
     let mut line = ShortLine::new();
     line.push_str(words);
-    push_number(&mut line, number);
+    push_number(&mut line, u64::from(number));
+    line.push_str("\n");
+    line
+}
+
+/// A line of words that end in two numbers.
+fn twice_numbered_line(words: &str, first: u32, second: u64) -> ShortLine
+    requires { length words.now ≤ 20 }
+    ensures { result.bytes ≡ twice_numbered_line words.now first second }
+{
+    let mut line = ShortLine::new();
+    line.push_str(words);
+    push_number(&mut line, u64::from(first));
+    line.push_str(" ");
+    push_number(&mut line, second);
     line.push_str("\n");
     line
 }
@@ -47,6 +61,8 @@ fn mount_line(fault: MountFault) -> ShortLine
         MountFault::Version(version) => numbered_line("stop 3 version ", version),
         MountFault::DiskSize(blocks) => numbered_line("stop 3 disksize ", blocks),
         MountFault::BadLayer(block) => numbered_line("stop 3 badlayer ", block),
+        MountFault::BadRecord(place) => numbered_line("stop 3 badrecord ", place),
+        MountFault::BadTree { store, id } => twice_numbered_line("stop 3 badtree ", store, id),
         MountFault::Cramped(free) => numbered_line("stop 3 cramped ", free),
         MountFault::Device | MountFault::OutOfMemory => short_line(""),
     }
@@ -58,7 +74,7 @@ fn bad_line(number: u32, fault: LineFault) -> ShortLine
 {
     let mut line = ShortLine::new();
     line.push_str("stop 8 badline ");
-    push_number(&mut line, number);
+    push_number(&mut line, u64::from(number));
     line.push_str(" ");
     line.push_str(fault.word());
     line.push_str("\n");
@@ -110,19 +126,6 @@ pub(crate) fn write_formatted<K: Sink>(out: &mut K, blocks: u32, ring: u32) -> R
     ensures failed { OnErr result (Rose (K.fault_count out.old) (K.fault_count out.new)) }
     ensures grows { K.fault_count out.old ≤ K.fault_count out.new }
 {
-    let line = formatted_line(blocks, ring);
+    let line = twice_numbered_line("mkfs ", blocks, u64::from(ring));
     write_whole(out, line.as_str().as_bytes())
-}
-
-/// The line of a disk that was formatted.
-fn formatted_line(blocks: u32, ring: u32) -> ShortLine
-    ensures { result.bytes ≡ mkfs_line blocks ring }
-{
-    let mut line = ShortLine::new();
-    line.push_str("mkfs ");
-    push_number(&mut line, blocks);
-    line.push_str(" ");
-    push_number(&mut line, ring);
-    line.push_str("\n");
-    line
 }

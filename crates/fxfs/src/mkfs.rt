@@ -19,8 +19,8 @@ pub fn mkfs_call<D: Disk, K: Sink>(alloc: Global, ring: u32, disk: D, out: &mut 
     requires least { 256 ≤ ring }
     requires most { ring ≤ 1024 }
     ensures status { result.status ≡ status_of result.stop }
-    ensures ends { let before : DiskSeen = record { size = D.size disk; told = D.told disk; calls = D.calls disk; faults = D.faults disk } in
-        let after : DiskSeen = record { size = D.size result.disk; told = D.told result.disk; calls = D.calls result.disk; faults = D.faults result.disk } in
+    ensures ends { let before : DiskSeen = record { size = D.size disk; told = D.told disk; calls = D.calls disk; faults = D.faults disk; last_made = D.last_made disk } in
+        let after : DiskSeen = record { size = D.size result.disk; told = D.told result.disk; calls = D.calls result.disk; faults = D.faults result.disk; last_made = D.last_made result.disk } in
         let end : End = record { stop = result.stop; base = result.base; history = result.history; outcomes = result.outcomes } in
         MkfsEnds ring before after (record { bytes = K.text out.old; faults = K.fault_count out.old })
         (record { bytes = K.text out.new; faults = K.fault_count out.new }) end }

@@ -1,22 +1,23 @@
 //! The command `shell`.
-ghost use Rattle.std.specs.Prelude.{◌≡◌, ◌≢◌, ◌⊎◌, ℕ, ◌+◌, ◌<◌, ◌≤◌, [], true, false, None, Err, All, length, map, IfOk, IfErr, IsTrue, vec_capacity};
+ghost use Rattle.std.specs.Prelude.{◌≡◌, ◌≢◌, ◌⊎◌, ℕ, ◌+◌, ◌<◌, ◌≤◌, [], true, false, None, Err, All, List, length, map, IfOk, IfErr, IsTrue, vec_capacity};
 ghost use Rattle.std.specs.Option.{IfSome};
 ghost use Rattle.fx_base.specs.Causes.{Rose};
 ghost use Rattle.fx_image.specs.Longer.{Extends};
 ghost use Rattle.fx_io.specs.Told.{GivesAtMost};
-ghost use Rattle.fx_plain.specs.Tree.{root};
+ghost use Rattle.fx_plain.specs.Tree.{Tree};
+ghost use Rattle.fx_script.specs.Print.{KeepsRules};
+ghost use Rattle.fx_history.specs.Outcome.{LineEnd};
 ghost use Rattle.fx_history.specs.Transcript.{Session as IsSession};
-ghost use Rattle.fx_mount.specs.Mounted.{KeepsSuper};
+ghost use Rattle.fx_mount.specs.Mounted.{KeepsImages, Opens};
 ghost use Rattle.fxfs.specs.Stop.{status_of};
 ghost use Rattle.fxfs.specs.Outside.{DiskSeen, StreamSeen, Outside, End, IsStopped};
-ghost use Rattle.fxfs.specs.Lines.{Spells, IsNoScript, Finishes, Tells, TellsUnsynced};
-ghost use Rattle.fxfs.specs.Shell.{ShellEnds};
+ghost use Rattle.fxfs.specs.Lines.{Spells, IsNoScript, Finishes, Flushes, Syncs, Tells, TellsEnd, TellsUnsynced};
+ghost use Rattle.fxfs.specs.Shell.{AreFaults, AreFull, AreSyncs, ShellEnds};
 
 use crate::ended::{Ended, Stop};
 use crate::line::write_stop;
-use crate::text::result_text;
 use fx_disk::Disk;
-use fx_history::{Outcome, Outcomes};
+use fx_history::{History, Outcome, Outcomes, result_text};
 use fx_io::{ReadAllFault, Sink, Source, read_whole, write_whole};
 use fx_mount::{MountFault, Store, StoreEnd, Unmounted, mount};
 use fx_script::{ScriptFault, Task, Tasks, read_script};
@@ -25,14 +26,14 @@ use std::alloc::Global;
 /// The most bytes of a script.
 pub const MAX_INPUT: u32 = 16_777_216;
 
-/// Reads the source to its end and its script, mounts the disk, does the lines one after another on a
-/// tree that has the root alone, flushes the disk, and writes a result line for each line to the sink.
-/// Where that fails it writes the line that tells why, behind the result lines where the flush failed.
-/// `Ended` says which it was, the first cause in this order.
+/// Reads the source to its end and its script, mounts the disk, does the lines one after another on the
+/// tree that its journal leads to, flushes what they made, and writes a result line for each line to the
+/// sink. Where that fails it writes the line that tells why, behind the result lines where the disk failed
+/// after them. `Ended` says which it was, the first cause in this order.
 ///
 /// The memory for the outcomes is taken before the mount, so lines are never left half run. Costs the
-/// bytes of the script, of the results and of what the lines do, and two reads and three calls of the
-/// disk.
+/// bytes of the script, of the results and of what the lines do, what a mount costs, and a write for each
+/// journal block that the commits fill or leave unfinished at a sync.
 pub fn shell_call<D: Disk, S: Source, K: Sink>(
     alloc: Global,
     disk: D,
@@ -41,12 +42,12 @@ pub fn shell_call<D: Disk, S: Source, K: Sink>(
 ) -> Ended<D>
     ensures status { result.status ≡ status_of result.stop }
     ensures ends { let before : Outside = record {
-      disk = record { size = D.size disk; told = D.told disk; calls = D.calls disk; faults = D.faults disk };
+      disk = record { size = D.size disk; told = D.told disk; calls = D.calls disk; faults = D.faults disk; last_made = D.last_made disk };
       source = record { bytes = S.left src.old; faults = S.fault_count src.old };
       sink = record { bytes = K.text out.old; faults = K.fault_count out.old };
     } in
         let after : Outside = record {
-          disk = record { size = D.size result.disk; told = D.told result.disk; calls = D.calls result.disk; faults = D.faults result.disk };
+          disk = record { size = D.size result.disk; told = D.told result.disk; calls = D.calls result.disk; faults = D.faults result.disk; last_made = D.last_made result.disk };
           source = record { bytes = S.left src.new; faults = S.fault_count src.new };
           sink = record { bytes = K.text out.new; faults = K.fault_count out.new };
         } in
@@ -69,6 +70,7 @@ pub fn shell_call<D: Disk, S: Source, K: Sink>(
 /// The lines of the script that the source gives.
 fn read_tasks<S: Source>(alloc: Global, src: &mut S) -> Result<Tasks, Stop>
     ensures ok { IfOk result (Spells (S.left src.old) (S.left src.new)) }
+    ensures rules { IfOk result (All (λ task. KeepsRules task.line)) }
     ensures err { IfErr result (IsNoScript (record { bytes = S.left src.old; faults = S.fault_count src.old })
         (record { bytes = S.left src.new; faults = S.fault_count src.new })) }
     ensures most { GivesAtMost (S.left src.old) (S.left src.new) (MAX_INPUT + 1) }
@@ -125,35 +127,36 @@ fn finish<D: Disk, K: Sink>(
 ) -> Ended<D>
     requires fresh { store.history ≡ [] }
     requires clients { All (λ task. 0 < task.client) tasks.now }
+    requires rules { All (λ task. KeepsRules task.line) tasks.now }
     requires empty { room.items ≡ [] }
     requires room { length tasks.now ≤ vec_capacity room }
     ensures status { result.status ≡ status_of result.stop }
-    ensures session { IsSession root store.base result.history tasks.now result.outcomes }
+    ensures session { (opening : Tree) → Opens store.txns opening → IsSession opening store.base result.history tasks.now result.outcomes }
+    ensures told { AreFaults (D.faults store.disk) (D.faults result.disk) result.outcomes }
+    ensures synced { AreSyncs (D.calls store.disk) (D.calls result.disk) (D.told result.disk) result.outcomes }
+    ensures full { (opening : Tree) → Opens store.txns opening → AreFull store.ring store.live store.base result.outcomes }
     ensures base { result.base ≡ store.base }
-    ensures settled { All (λ entry. entry.settled ≡ 0) result.history }
-    ensures tells { Finishes (D.calls store.disk) (D.calls result.disk) (D.faults store.disk) (D.faults result.disk)
+    ensures settled { All (λ entry. entry.settled ≤ D.calls result.disk) result.history }
+    ensures finishes { Finishes store.from store.txns (record { size = D.size store.disk; told = D.told store.disk; calls = D.calls store.disk; faults = D.faults store.disk; last_made = D.last_made store.disk })
+        (record { size = D.size result.disk; told = D.told result.disk; calls = D.calls result.disk; faults = D.faults result.disk; last_made = D.last_made result.disk })
         (record { bytes = K.text out.old; faults = K.fault_count out.old })
-        (record { bytes = K.text out.new; faults = K.fault_count out.new }) tasks.now result.outcomes result.stop }
-    ensures most { D.calls result.disk ≤ D.calls store.disk + 1 }
+        (record { bytes = K.text out.new; faults = K.fault_count out.new }) tasks.now
+        (record { stop = result.stop; base = result.base; history = result.history; outcomes = result.outcomes }) result.stop }
+    ensures images { IfSome (D.told result.disk) (KeepsImages (D.size result.disk) store.from store.txns store.base result.history) }
     ensures extends { Extends (D.told store.disk) (D.told result.disk) }
     ensures size { D.size result.disk ≡ D.size store.disk }
     ensures faults { D.faults store.disk ≤ D.faults result.disk }
-    ensures images { IfSome (D.told result.disk) (KeepsSuper store.from) }
     ensures grows { K.fault_count out.old ≤ K.fault_count out.new }
 {
     let mut store = store;
     let outcomes = run(alloc, &mut store, tasks, room);
-    let is_synced = store.sync().is_ok();
-    let StoreEnd {
+    let Closed {
+        is_flushed,
         disk,
         base,
         history,
-    } = store.end();
-    let stop = if is_synced {
-        tell(alloc, tasks, outcomes.as_slice(), out)
-    } else {
-        tell_unsynced(alloc, tasks, outcomes.as_slice(), out)
-    };
+    } = close(store);
+    let stop = tell_end(alloc, is_flushed, tasks, outcomes.as_slice(), out);
     Ended {
         status: stop.status(),
         stop,
@@ -168,13 +171,20 @@ fn finish<D: Disk, K: Sink>(
 fn run<D: Disk>(alloc: Global, store: &mut Store<D>, tasks: &[Task], room: Vec<Outcome>) -> Outcomes
     requires fresh { store.old.history ≡ [] }
     requires clients { All (λ task. 0 < task.client) tasks.now }
+    requires rules { All (λ task. KeepsRules task.line) tasks.now }
     requires empty { room.items ≡ [] }
     requires room { length tasks.now ≤ vec_capacity room }
-    ensures session { IsSession root store.old.base store.new.history tasks.now result }
-    ensures settled { All (λ entry. entry.settled ≡ 0) store.new.history }
+    ensures one_each { length result ≡ length tasks.now }
+    ensures session { (opening : Tree) → Opens store.old.txns opening → IsSession opening store.old.base store.new.history tasks.now result }
+    ensures told { AreFaults (D.faults store.old.disk) (D.faults store.new.disk) result }
+    ensures synced { AreSyncs (D.calls store.old.disk) (D.calls store.new.disk) (D.told store.new.disk) result }
+    ensures full { (opening : Tree) → Opens store.old.txns opening → AreFull store.old.ring store.old.live store.old.base result }
     ensures base { store.new.base ≡ store.old.base }
+    ensures txns { store.new.txns ≡ store.old.txns }
     ensures from { store.new.from ≡ store.old.from }
-    ensures disk { store.new.disk ≡ store.old.disk }
+    ensures extends { Extends (D.told store.old.disk) (D.told store.new.disk) }
+    ensures size { D.size store.new.disk ≡ D.size store.old.disk }
+    ensures faults { D.faults store.old.disk ≤ D.faults store.new.disk }
 {
     let mut items = room;
     for task in tasks {
@@ -182,6 +192,81 @@ fn run<D: Disk>(alloc: Global, store: &mut Store<D>, tasks: &[Task], room: Vec<O
         items.push_reserved(outcome);
     }
     Outcomes::new(items)
+}
+
+/// Flushes what the lines made, and tells whether that was done.
+fn flush<D: Disk>(store: &mut Store<D>) -> bool
+    ensures syncs { Syncs result store.old.from store.old.txns (record { size = D.size store.old.disk; told = D.told store.old.disk; calls = D.calls store.old.disk; faults = D.faults store.old.disk; last_made = D.last_made store.old.disk })
+        (record { size = D.size store.new.disk; told = D.told store.new.disk; calls = D.calls store.new.disk; faults = D.faults store.new.disk; last_made = D.last_made store.new.disk }) store.old.base store.old.history store.new.history }
+    ensures base { store.new.base ≡ store.old.base }
+    ensures txns { store.new.txns ≡ store.old.txns }
+    ensures from { store.new.from ≡ store.old.from }
+    ensures extends { Extends (D.told store.old.disk) (D.told store.new.disk) }
+    ensures size { D.size store.new.disk ≡ D.size store.old.disk }
+    ensures faults { D.faults store.old.disk ≤ D.faults store.new.disk }
+{
+    let Ok(_) = store.sync() else {
+        return false;
+    };
+    true
+}
+
+/// A disk that is no longer mounted, with its commits, and whether all that was made was flushed.
+#[derive(Debug, Drop)]
+struct Closed<D> {
+    is_flushed: bool,
+    disk: D,
+    base: u64,
+    history: History,
+}
+
+/// Flushes what the lines made, and gives the disk back.
+fn close<D: Disk>(store: Store<D>) -> Closed<D>
+    ensures base { result.base ≡ store.base }
+    ensures flushes { Flushes result.is_flushed store.from store.txns (record { size = D.size store.disk; told = D.told store.disk; calls = D.calls store.disk; faults = D.faults store.disk; last_made = D.last_made store.disk })
+        (record { size = D.size result.disk; told = D.told result.disk; calls = D.calls result.disk; faults = D.faults result.disk; last_made = D.last_made result.disk }) store.base result.history }
+
+    // A session stays one: where the disk was flushed its history is settled, and else as it was.
+    ensures session { (opening : Tree) (tasks : List Task) (outcomes : List LineEnd) →
+        IsSession opening store.base store.history tasks outcomes → IsSession opening store.base result.history tasks outcomes }
+    ensures settled { All (λ entry. entry.settled ≤ D.calls result.disk) result.history }
+    ensures images { IfSome (D.told result.disk) (KeepsImages (D.size result.disk) store.from store.txns store.base result.history) }
+    ensures extends { Extends (D.told store.disk) (D.told result.disk) }
+    ensures size { D.size result.disk ≡ D.size store.disk }
+    ensures faults { D.faults store.disk ≤ D.faults result.disk }
+{
+    let mut store = store;
+    let is_flushed = flush(&mut store);
+    let StoreEnd {
+        disk,
+        base,
+        history,
+    } = store.end();
+    Closed {
+        is_flushed,
+        disk,
+        base,
+        history,
+    }
+}
+
+/// Writes what the lines did and whether the disk was flushed, and gives the cause.
+fn tell_end<K: Sink>(
+    alloc: Global,
+    is_flushed: bool,
+    tasks: &[Task],
+    outcomes: &[Outcome],
+    out: &mut K,
+) -> Stop
+    requires { length outcomes.now ≡ length tasks.now }
+    ensures tells { TellsEnd is_flushed (record { bytes = K.text out.old; faults = K.fault_count out.old })
+        (record { bytes = K.text out.new; faults = K.fault_count out.new }) tasks.now outcomes.now result }
+    ensures grows { K.fault_count out.old ≤ K.fault_count out.new }
+{
+    if is_flushed {
+        return tell(alloc, tasks, outcomes, out);
+    }
+    tell_unsynced(alloc, tasks, outcomes, out)
 }
 
 /// Writes the result lines, once all lines were run and the disk was flushed, and gives the cause.
@@ -201,8 +286,8 @@ fn tell<K: Sink>(alloc: Global, tasks: &[Task], outcomes: &[Outcome], out: &mut 
     }
 }
 
-/// Writes the result lines and the stop line, once all lines were run and the flush failed, and gives
-/// the cause.
+/// Writes the result lines and the stop line, once all lines were run and the disk failed after them, and
+/// gives the cause.
 fn tell_unsynced<K: Sink>(alloc: Global, tasks: &[Task], outcomes: &[Outcome], out: &mut K) -> Stop
     requires { length outcomes.now ≡ length tasks.now }
     ensures device { result ≡ Stop.Device }

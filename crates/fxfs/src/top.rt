@@ -26,12 +26,12 @@ pub fn fxfs_top<D: Disk, S: Source, K: Sink>(
 
     // What the command does by its own call, unless there was no memory to read the words.
     ensures does { let before : Outside = record {
-      disk = record { size = D.size disk; told = D.told disk; calls = D.calls disk; faults = D.faults disk };
+      disk = record { size = D.size disk; told = D.told disk; calls = D.calls disk; faults = D.faults disk; last_made = D.last_made disk };
       source = record { bytes = S.left src.old; faults = S.fault_count src.old };
       sink = record { bytes = K.text out.old; faults = K.fault_count out.old };
     } in
         let after : Outside = record {
-          disk = record { size = D.size result.disk; told = D.told result.disk; calls = D.calls result.disk; faults = D.faults result.disk };
+          disk = record { size = D.size result.disk; told = D.told result.disk; calls = D.calls result.disk; faults = D.faults result.disk; last_made = D.last_made result.disk };
           source = record { bytes = S.left src.new; faults = S.fault_count src.new };
           sink = record { bytes = K.text out.new; faults = K.fault_count out.new };
         } in

@@ -1,10 +1,26 @@
-use Rattle.std.proofs.Common.{◌≡◌, ◌≤◌, take, length}
+use Rattle.std.proofs.Common.{◌≡◌, ◌+◌, ◌≤◌, take, length}
 use Rattle.std.specs.Prelude.{vec_capacity}
-use Rattle.fx_plain.specs.Tree.{root}
+use Rattle.fx_plain.specs.Tree.{Tree}
 use Rattle.fx_history.proofs.Sessions.{Follows}
+use Rattle.fx_image.specs.Longer.{Extends}
+use Rattle.fx_mount.specs.Mounted.{Opens}
+use Rattle.fxfs.specs.Shell.{AreFaults, AreFull, AreSyncs}
 use Rattle.fxfs.proofs.shell.run.Given as goal
 
 abbrev pub invariant-loop-task : goal.invariant-loop-task
-invariant-loop-task g l =
-    Follows root l.initial.store.base l.store.history (take l.task-index l.tasks) l.items.items × (length l.tasks ≤ vec_capacity l.items) × (l.store.base ≡ l.initial.store.base)
-    × (l.store.from ≡ l.initial.store.from) × (l.store.disk ≡ l.initial.store.disk)
+invariant-loop-task g l = record {
+  follows : (opening : Tree) → Opens l.initial.store.txns opening → Follows opening l.initial.store.base l.store.history (take l.task-index l.tasks) l.items.items;
+  one_each : length l.items.items ≡ l.task-index;
+  room : length l.tasks ≤ vec_capacity l.items;
+  told : AreFaults (g.D.Disk.faults l.initial.store.disk) (g.D.Disk.faults l.store.disk) l.items.items;
+  synced : AreSyncs (g.D.Disk.calls l.initial.store.disk) (g.D.Disk.calls l.store.disk) (g.D.Disk.told l.store.disk) l.items.items;
+  full : (opening : Tree) → Opens l.initial.store.txns opening → AreFull l.initial.store.ring l.initial.store.live l.initial.store.base l.items.items;
+  live : l.store.live ≤ l.initial.store.live + length l.store.history;
+  base : l.store.base ≡ l.initial.store.base;
+  txns : l.store.txns ≡ l.initial.store.txns;
+  from : l.store.from ≡ l.initial.store.from;
+  ring : l.store.ring ≡ l.initial.store.ring;
+  extends : Extends (g.D.Disk.told l.initial.store.disk) (g.D.Disk.told l.store.disk);
+  size : g.D.Disk.size l.store.disk ≡ g.D.Disk.size l.initial.store.disk;
+  faults : g.D.Disk.faults l.initial.store.disk ≤ g.D.Disk.faults l.store.disk;
+}

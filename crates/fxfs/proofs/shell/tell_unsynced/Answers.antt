@@ -1,4 +1,4 @@
-use Rattle.std.proofs.Common.{◌≡◌, ◌∙◌, inl, subst, List, ℕ}
+use Rattle.std.proofs.Common.{◌∙◌, inl, subst, List, ℕ}
 use Rattle.fx_history.specs.Text.{result_text}
 use Rattle.fxfs.specs.declared.ended.Stop.TheVariants as stops
 use Rattle.fxfs.specs.Stop.{stop_line}

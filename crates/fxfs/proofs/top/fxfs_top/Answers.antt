@@ -2,7 +2,6 @@ use Rattle.std.proofs.Common.{◌≡◌, ◌∙◌, ap, ℕ, List, Global}
 use Rattle.std.specs.Prelude.{map, Some}
 use Rattle.std.specs.String.{string_bytes}
 use Rattle.fxfs.specs.Command.{command_of}
-use Rattle.fxfs.specs.declared.command.Command.{Command}
 use Rattle.fxfs.specs.declared.command.Command.TheVariants.{Mkfs}
 use Rattle.fxfs.proofs.Words.{ring_of_command}
 use Rattle.fxfs.proofs.top.fxfs_top.Goals as goal
