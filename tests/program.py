@@ -70,7 +70,7 @@ def on_file(size, *commands):
 
 def formatted_file():
     got = on_file(8 << 20, ("mkfs", b""), ("shell", b"mkdir /v\n"), ("shell", b"mkdir /v\n"))
-    return got, [(0, b"mkfs 2048 256\n", b""), (0, b"1 1 ok 1\n", b""), (0, b"1 1 ok 1\n", b"")]
+    return got, [(0, b"mkfs 2048 256\n", b""), (0, b"1 1 ok 1\n", b""), (0, b"1 1 err 1 1 exists\n", b"")]
 
 
 def ring_of_a_file():

@@ -3,6 +3,7 @@ ghost use Rattle.std.specs.Prelude.{◌≤◌};
 
 use fx_disk::Disk;
 use fx_disks::{Image, MemDisk};
+use fx_jblock::{RECORD_BYTES, pack};
 use fx_mount::mkfs;
 use fx_super::{LayerList, Super, encode_super, first_super};
 use std::alloc::{AllocError, Global};
@@ -60,6 +61,24 @@ fn with_super(alloc: Global, sup: &Super) -> Result<MemDisk, AllocError> {
     blocks.push(block)?;
     blocks.resize(BLOCKS as usize, [0; 4096])?;
     Ok(MemDisk::from_image(alloc, Image::from_blocks(blocks)))
+}
+
+/// A disk with the first superblock, whose journal is one block that holds these bytes; none where they
+/// are too many or none.
+pub(crate) fn with_journal(alloc: Global, records: &[u8]) -> Result<Option<MemDisk>, AllocError> {
+    if records.is_empty() || RECORD_BYTES < records.len() {
+        return Ok(None);
+    }
+    let mut first = [0; 4096];
+    encode_super(&first_super(BLOCKS, 256), &mut first);
+    let mut journal = [0; 4096];
+    let _chain = pack(0, 1, 1, records, &mut journal);
+    let mut blocks = Vec::new(alloc);
+    blocks.push(first)?;
+    blocks.push([0; 4096])?;
+    blocks.push(journal)?;
+    blocks.resize(BLOCKS as usize, [0; 4096])?;
+    Ok(Some(MemDisk::from_image(alloc, Image::from_blocks(blocks))))
 }
 
 /// A disk that begins as `mkfs` leaves one, and has made no calls.

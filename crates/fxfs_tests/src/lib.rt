@@ -2,6 +2,14 @@
 #![tactic(auto)]
 
 #[cfg(test)]
+mod damaged;
+#[cfg(test)]
+mod full;
+#[cfg(test)]
 mod images;
+#[cfg(test)]
+mod moments;
+#[cfg(test)]
+mod runs;
 #[cfg(test)]
 mod tests;
