@@ -1,7 +1,8 @@
 """The time of reading a script of 16 MiB against that of copying it, in one run of each.
 
-The last line is wrong, so the script is read whole and nothing is run. The least time of five rounds
-counts for each; the program's start is measured by an empty script and taken off.
+The last line is wrong, so the script is read whole and nothing is run. The image is a file, which is
+not read then, so that no disk lies in the program's memory. The least time of five rounds counts for
+each; the program's start is measured by an empty script on an image that is not mounted, and taken off.
 """
 import os
 import subprocess
@@ -10,8 +11,9 @@ import time
 
 TOP = os.path.dirname(os.path.dirname(os.path.abspath(__file__)))
 LAUNCHER = os.path.join(TOP, "fxfs")
-PROGRAM = [os.path.join(TOP, "crates", "fxfs_cli", "out", "fxfs_cli"), "mem:2048", "shell"]
+PROGRAM = os.path.join(TOP, "crates", "fxfs_cli", "out", "fxfs_cli")
 LIMIT = 16777216
+IMAGE_BYTES = 2048 * 4096
 
 
 def script():
@@ -36,13 +38,16 @@ def least(words, path, status):
 
 def main():
     with tempfile.TemporaryDirectory() as folder:
-        full, empty, copy = (os.path.join(folder, name) for name in ("full", "empty", "copy"))
+        full, empty, copy, image = (os.path.join(folder, name) for name in ("full", "empty", "copy", "image"))
         with open(full, "wb") as file:
             file.write(script())
         open(empty, "wb").close()
+        with open(image, "wb") as file:
+            file.truncate(IMAGE_BYTES)
         # The launcher builds the program where it is not built.
-        subprocess.run([LAUNCHER, *PROGRAM[1:]], stdin=subprocess.DEVNULL, check=True)
-        read = least(PROGRAM, full, 8) - least(PROGRAM, empty, 0)
+        subprocess.run([LAUNCHER, "mem:2048", "shell"], stdin=subprocess.DEVNULL, check=True)
+        shell = [PROGRAM, image, "shell"]
+        read = least(shell, full, 8) - least(shell, empty, 3)
         copied = least(["cp", full, copy], empty, 0)
         print(f"reading 16 MiB of lines takes {read / copied:.1f} times as long as copying the file ({read * 1000:.0f} ms)")
 
