@@ -4,7 +4,8 @@
   into an ext4 image of the same size. The least time of five rounds counts for each.
 - 3,000 creates with a sync behind each, against as many writes of 4,096 bytes with a data sync behind each, on a
   file beside the image. A ring of 1,024 blocks takes fewer than 3,000, and what a sync costs changes from second to
-  second on some devices; so each is done in twelve rounds of 250, in turns, on a fresh image. The sums count.
+  second on some devices; so each is done in twelve rounds of 250, in turns, on a fresh image. The sums count,
+  with the start of the program taken off, which one shell of 3,000 would have once: that of an empty script.
 """
 import statistics
 import tempfile
@@ -46,11 +47,13 @@ def with_a_sync_each(folder):
     count = CREATES // SYNC_ROUNDS
     lines = sides.synced_creates(count)
     ours, theirs = turns(lambda: sides.fxfs(folder, lines), lambda: sides.bare_syncs(folder, count), SYNC_ROUNDS)
-    middle = statistics.median(one / other for one, other in zip(ours, theirs))
+    start = statistics.median(sides.fxfs(folder, []).seconds for _ in range(SYNC_ROUNDS))
+    middle = statistics.median((one - start) / other for one, other in zip(ours, theirs))
     ours, theirs = sum(ours), sum(theirs)
     print(
-        f"{CREATES:,} creates with a sync each take {ours / theirs:.2f} times as long as bare writes with a data sync each"
-        f" (at most 1.3 is wished): {ours:.2f} s, {theirs:.2f} s; {middle:.2f} in the median round"
+        f"{CREATES:,} creates with a sync each take {(ours - start * SYNC_ROUNDS) / theirs:.2f} times as long as bare writes"
+        f" with a data sync each (at most 1.3 is wished): {ours:.2f} s with {SYNC_ROUNDS} starts of {start * 1000:.1f} ms,"
+        f" {theirs:.2f} s; {middle:.2f} in the median round, {ours / theirs:.2f} with the starts"
     )
 
 
