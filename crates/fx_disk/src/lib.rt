@@ -77,7 +77,8 @@ pub trait Disk {
         ensures limit { OnOk result (reads self.old < 2 ^ 63) }
 
         ensures faults { faults self.old ≤ faults self.new }
-        ensures fault { OnErr result (Rose (faults self.old) (faults self.new)) };
+        ensures fault { OnErr result (Rose (faults self.old) (faults self.new)) }
+        ensures unfailed { OnOk result (faults self.new ≡ faults self.old) };
 
     /// Writes a block. A write that fails may have been made, and then leaves any bytes in its block
     /// until a later write and flush.
@@ -89,7 +90,8 @@ pub trait Disk {
         ensures size { size self.new ≡ size self.old }
         ensures reads { reads self.new ≡ reads self.old }
         ensures faults { faults self.old ≤ faults self.new }
-        ensures fault { OnErr result (Rose (faults self.old) (faults self.new)) };
+        ensures fault { OnErr result (Rose (faults self.old) (faults self.new)) }
+        ensures unfailed { OnOk result (faults self.new ≡ faults self.old) };
 
     /// Settles each block whose last write was good. A flush that fails settles nothing.
     fn flush(&mut self) -> Result<(), DiskFailed>
@@ -99,7 +101,8 @@ pub trait Disk {
         ensures size { size self.new ≡ size self.old }
         ensures reads { reads self.new ≡ reads self.old }
         ensures faults { faults self.old ≤ faults self.new }
-        ensures fault { OnErr result (Rose (faults self.old) (faults self.new)) };
+        ensures fault { OnErr result (Rose (faults self.old) (faults self.new)) }
+        ensures unfailed { OnOk result (faults self.new ≡ faults self.old) };
 
     /// The counts stay in their ranges.
     ghost in_range: { (d : Self) → IsCounted (size d) (calls d) (reads d) (faults d) };

@@ -7,3 +7,4 @@ pub mod Left
 pub mod Index
 pub mod State
 pub mod Memory
+pub mod File

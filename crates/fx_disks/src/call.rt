@@ -31,6 +31,7 @@ impl Made {
             Made::Flush { .. } => false,
         }
     }
+
     /// The bytes of a write, or the other ones for a flush.
     pub fn bytes_or<'a>(&'a self, other: &'a [u8; 4096]) -> &'a [u8; 4096]
         ensures { result.now ≡ bytes_or (call_of self.now) other.now }

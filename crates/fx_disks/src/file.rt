@@ -1,6 +1,5 @@
 //! A disk over a file.
-ghost use Rattle.std.specs.Prelude.{◌≡◌, ℕ, ◌+◌, ◌<◌, ◌≤◌, ◌^◌, min, Bool, OnOk, OnErr, is_ok, None};
-ghost use Rattle.fx_disks.specs.State.{risen};
+ghost use Rattle.std.specs.Prelude.{◌<◌, ◌≤◌, ◌^◌, IfOk, None};
 
 use fx_disk::{BLOCK_BYTES, Disk, DiskFailed, MAX_CALLS};
 use std::fs::{File, OpenOptions};
@@ -35,11 +34,15 @@ fn open<R: Files<File = File>>(rt: &R, path: &str) -> io::Result<(File, u64)> {
 }
 
 impl FileDisk {
+    ghost use Rattle.fx_disks.specs.File.{IsFresh};
+
     /// Opens the file for reading and writing. The disk has its size divided by 4,096 blocks, at most
     /// `u32::MAX`; what is left of the file is not touched.
     ///
-    /// It fails where the file does not open.
-    pub fn on<R: Files<File = File>>(rt: &R, path: &str) -> Result<FileDisk, DiskFailed> {
+    /// It fails where the file does not open. No call was made yet.
+    pub fn on<R: Files<File = File>>(rt: &R, path: &str) -> Result<FileDisk, DiskFailed>
+        ensures fresh { IfOk result IsFresh }
+    {
         let Ok((file, size)) = open(rt, path) else {
             return Err(DiskFailed);
         };

@@ -52,6 +52,7 @@ impl Image {
         Image { blocks }
     }
 
+    /// The blocks, in order.
     pub fn blocks(&self) -> &[[u8; 4096]]
         ensures value { result.now ≡ self.now }
         ensures blocks { AreBlocks self.now }

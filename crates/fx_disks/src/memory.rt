@@ -160,6 +160,7 @@ impl MemDisk {
     {
         self.starved
     }
+
     // A read that is asked for, and whether it answers Ok.
     fn try_read(&mut self, at: u32, into: &mut [u8; 4096]) -> bool
         requires { at < length (told_of self.old).entry }
@@ -237,6 +238,7 @@ impl MemDisk {
         }
         true
     }
+
     /// The image that a stop at this moment leaves where each loose block holds what is picked for it,
     /// or else its settled bytes: the last that it held while it was not loose.
     ///
@@ -305,6 +307,7 @@ impl Disk for MemDisk {
         ensures limit { OnOk result ((state_of self.old).reads < 2 ^ 63) }
         ensures faults { (state_of self.old).faults ≤ (state_of self.new).faults }
         ensures fault { OnErr result (Rose (state_of self.old).faults (state_of self.new).faults) }
+        ensures unfailed { OnOk result ((state_of self.new).faults ≡ (state_of self.old).faults) }
     {
         if self.try_read(at, into) {
             Ok(())
@@ -322,6 +325,7 @@ impl Disk for MemDisk {
         ensures reads { (state_of self.new).reads ≡ (state_of self.old).reads }
         ensures faults { (state_of self.old).faults ≤ (state_of self.new).faults }
         ensures fault { OnErr result (Rose (state_of self.old).faults (state_of self.new).faults) }
+        ensures unfailed { OnOk result ((state_of self.new).faults ≡ (state_of self.old).faults) }
     {
         if self.try_write(at, from) {
             Ok(())
@@ -338,6 +342,7 @@ impl Disk for MemDisk {
         ensures reads { (state_of self.new).reads ≡ (state_of self.old).reads }
         ensures faults { (state_of self.old).faults ≤ (state_of self.new).faults }
         ensures fault { OnErr result (Rose (state_of self.old).faults (state_of self.new).faults) }
+        ensures unfailed { OnOk result ((state_of self.new).faults ≡ (state_of self.old).faults) }
     {
         if self.try_flush() {
             Ok(())

@@ -1,7 +1,7 @@
 use super::*;
 use fx_disk::{Disk, DiskFailed};
 use std::alloc::{AllocError, Global};
-use std::fs;
+use std::fs::{self, File, Files};
 use std::process::Abort;
 use std::test::Fail;
 
@@ -39,43 +39,61 @@ fn picked(block: u32, loose: Loose) -> Pick {
     Pick { block, loose }
 }
 
-// Blocks 0 to 2 begin as 1, 2 and 3. Calls: 1 writes 11 to block 0; 2 flushes; 3 writes 12 to block 0;
-// 4 fails to write 22 to block 1; 5 fails to flush; 6 flushes; 7 writes 13 to block 0.
-fn written(alloc: Global) -> Result<Option<MemDisk>, AllocError> {
+/// A disk with these blocks.
+fn disk_of(alloc: Global, blocks: Vec<[u8; 4096]>) -> Option<MemDisk> {
+    if blocks.len() > 3 {
+        return None;
+    }
+    Some(MemDisk::from_image(alloc, Image::from_blocks(blocks)))
+}
+
+/// A disk whose blocks 0 to 2 begin as 1, 2 and 3, and whose calls 4 and 5 fail.
+fn begun(alloc: Global) -> Result<Option<MemDisk>, AllocError> {
     let mut blocks = Vec::new(alloc);
-    blocks.push(block(1))?;
-    blocks.push(block(2))?;
-    blocks.push(block(3))?;
-    if blocks.len() != 3 {
-        return Ok(None);
+    for byte in 1..4 {
+        blocks.push(block(byte))?;
     }
-    let mut disk = MemDisk::from_image(alloc, Image::from_blocks(blocks));
-    let mut fails = Vec::new(alloc);
-    fails.push(5)?;
-    fails.push(4)?;
-    disk.fail_calls(fails);
-    if disk.blocks() < 3 {
+    let Some(mut disk) = disk_of(alloc, blocks) else {
         return Ok(None);
-    }
-    let _ = disk.write(0, &block(11));
-    let _ = disk.flush();
-    let _ = disk.write(0, &block(12));
-    let _ = disk.write(1, &block(22));
-    let _ = disk.flush();
-    let _ = disk.flush();
-    let _ = disk.write(0, &block(13));
+    };
+    disk.fail_calls([5, 4].to_vec(alloc)?);
     Ok(Some(disk))
 }
 
-#[test]
-fn gives_every_image(rt: HostRuntime) -> Result<(), Fail> {
-    let disk = written(rt.alloc())?.ok_or("made")?;
-    assert_eq!(rt; (disk.calls(), disk.faults(), disk.starved()), (7, 2, 0));
-    let free = Pick {
-        block: 2,
-        loose: Loose::Zeros,
+/// Asks for a write, where the disk has the block.
+fn put<D: Disk>(disk: &mut D, at: u32, byte: u8) {
+    if at < disk.blocks() {
+        let _ = disk.write(at, &block(byte));
+    }
+}
+
+/// Asks for a flush.
+fn flush<D: Disk>(disk: &mut D) {
+    let _ = disk.flush();
+}
+
+// Calls: 1 writes 11 to block 0; 2 flushes; 3 writes 12 to block 0; 4 fails to write 22 to block 1; 5 fails
+// to flush; 6 flushes; 7 writes 13 to block 0.
+fn written(alloc: Global) -> Result<Option<MemDisk>, AllocError> {
+    let Some(mut disk) = begun(alloc)? else {
+        return Ok(None);
     };
-    let table = [
+    put(&mut disk, 0, 11);
+    flush(&mut disk);
+    put(&mut disk, 0, 12);
+    put(&mut disk, 1, 22);
+    flush(&mut disk);
+    flush(&mut disk);
+    put(&mut disk, 0, 13);
+    Ok(Some(disk))
+}
+
+/// A moment, a pick, and the first and the last byte of blocks 0 and 1 of the image.
+type Row = (u64, Pick, (u8, u8), (u8, u8));
+
+/// The images of the first two calls.
+fn images_before_the_second_write() -> [Row; 6] {
+    [
         // before the first call, and within it
         (0, picked(0, Loose::Settled), (1, 1), (2, 2)),
         (0, picked(0, Loose::Written(1)), (11, 11), (2, 2)),
@@ -84,6 +102,12 @@ fn gives_every_image(rt: HostRuntime) -> Result<(), Fail> {
         // before the good flush is done the first write is loose, and then it is settled
         (1, picked(0, Loose::Settled), (1, 1), (2, 2)),
         (2, picked(0, Loose::Settled), (11, 11), (2, 2)),
+    ]
+}
+
+/// The images of the calls behind them.
+fn images_behind() -> [Row; 9] {
+    [
         (2, picked(0, Loose::Written(3)), (12, 12), (2, 2)),
         // after the failed flush, with the failed write
         (5, picked(0, Loose::Written(1)), (11, 11), (2, 2)),
@@ -95,35 +119,73 @@ fn gives_every_image(rt: HostRuntime) -> Result<(), Fail> {
         (6, picked(1, Loose::Zeros), (12, 12), (0, 0)),
         (7, picked(0, Loose::Written(7)), (13, 13), (2, 2)),
         (7, picked(0, Loose::Half(3)), (12, 12), (2, 2)),
-    ];
-    for (moment, pick, first, second) in table {
-        let image = disk.image_at(rt.alloc(), moment, [pick].as_slice())?;
-        let got = ends(rt.alloc(), image)?;
-        assert_eq!(rt;
-            got.as_slice(),
-            [first, second, (3, 3)].as_slice(),
-            "{moment} {pick:?}"
-        );
-    }
-    let refused = [
+    ]
+}
+
+/// Moments and picks of which there is no image.
+fn refused() -> [(u64, Pick); 8] {
+    [
         (8, picked(0, Loose::Settled)),
         (7, picked(3, Loose::Settled)),
-        (7, free),
+        (7, picked(2, Loose::Zeros)),
         (3, picked(1, Loose::Written(3))),
         (2, picked(0, Loose::Written(7))),
         (7, picked(0, Loose::Written(0))),
         (7, picked(0, Loose::Written(8))),
         (7, picked(0, Loose::Half(6))),
-    ];
-    for (moment, pick) in refused {
+    ]
+}
+
+/// Asserts the image of each row.
+fn expect_images(
+    rt: &(impl Abort + AllocGlobal),
+    disk: &MemDisk,
+    rows: &[Row],
+) -> Result<(), AllocError> {
+    for (moment, pick, first, second) in rows {
+        let image = disk.image_at(rt.alloc(), *moment, [*pick].as_slice())?;
+        let got = ends(rt.alloc(), image)?;
+        assert_eq!(rt;
+            got.as_slice(),
+            [*first, *second, (3, 3)].as_slice(),
+            "{moment} {pick:?}"
+        );
+    }
+    Ok(())
+}
+
+/// Asserts that each row has no image.
+fn expect_refused(rt: &(impl Abort + AllocGlobal), disk: &MemDisk) -> Result<(), AllocError> {
+    for (moment, pick) in refused() {
         let image = disk.image_at(rt.alloc(), moment, [pick].as_slice())?;
         assert!(rt; image.is_none(), "{moment} {pick:?}");
     }
+    Ok(())
+}
+
+/// Asserts that a block is not picked twice, and that two are picked in any order.
+fn expect_pairs(rt: &(impl Abort + AllocGlobal), disk: &MemDisk) -> Result<(), AllocError> {
     let twice = [picked(0, Loose::Settled), picked(0, Loose::Zeros)];
     assert!(rt; disk.image_at(rt.alloc(), 7, twice.as_slice())?.is_none());
     let both = [picked(1, Loose::Zeros), picked(0, Loose::Zeros)];
     let got = ends(rt.alloc(), disk.image_at(rt.alloc(), 7, both.as_slice())?)?;
     assert_eq!(rt; got.as_slice(), [(0, 0), (0, 0), (3, 3)].as_slice());
+    Ok(())
+}
+
+/// Asserts what images there are, and what none.
+fn expect_all(rt: &(impl Abort + AllocGlobal), disk: &MemDisk) -> Result<(), AllocError> {
+    expect_images(rt, disk, &images_before_the_second_write())?;
+    expect_images(rt, disk, &images_behind())?;
+    expect_refused(rt, disk)?;
+    expect_pairs(rt, disk)
+}
+
+#[test]
+fn gives_every_image(rt: HostRuntime) -> Result<(), Fail> {
+    let disk = written(rt.alloc())?.ok_or("made")?;
+    assert_eq!(rt; (disk.calls(), disk.faults(), disk.starved()), (7, 2, 0));
+    expect_all(&rt, &disk)?;
     may_be_sent(disk);
     Ok(())
 }
@@ -162,25 +224,52 @@ fn fails_by_number(rt: HostRuntime) -> Result<(), Fail> {
     Ok(())
 }
 
-#[test]
-fn keeps_a_file(rt: HostRuntime) -> Result<(), Fail> {
-    let path = "disk.img";
-    fs::write(&rt, path, vec![in rt.alloc(); 7u8; 9000]?.as_slice())?;
-    let mut disk = FileDisk::on(&rt, path)?;
+/// The first and the last byte of a block, as it is read from the disk.
+fn bytes_at<D: Disk>(disk: &mut D, at: u32) -> Result<(u8, u8), DiskFailed> {
+    let mut into = block(0);
+    read(disk, at, &mut into)?;
+    Ok((into[0], into[4095]))
+}
+
+/// Makes a file of so many bytes, each 7.
+fn make_file(rt: &(impl Files + AllocGlobal), path: &str, len: usize) -> Result<(), Fail> {
+    let bytes = vec![in rt.alloc(); 7u8; len]?;
+    fs::write(rt, path, bytes.as_slice())?;
+    Ok(())
+}
+
+fn expect_written(
+    rt: &(impl Abort + Files<File = File> + AllocGlobal),
+    path: &str,
+) -> Result<(), Fail> {
+    let mut disk = FileDisk::on(rt, path)?;
     assert_eq!(rt; disk.blocks(), 2);
     assert_eq!(rt; ask(&mut disk, 5), 2);
     may_be_sent(disk);
-    let mut again = FileDisk::on(&rt, path)?;
+    Ok(())
+}
+
+fn expect_read(
+    rt: &(impl Abort + Files<File = File> + AllocGlobal),
+    path: &str,
+) -> Result<(), Fail> {
+    let mut again = FileDisk::on(rt, path)?;
     assert_eq!(rt; again.blocks(), 2);
-    let mut into = block(0);
-    assert_eq!(rt; again.read(0, &mut into), Ok(()));
-    assert_eq!(rt; (into[0], into[4095]), (5, 5));
-    assert_eq!(rt; again.read(1, &mut into), Ok(()));
-    assert_eq!(rt; (into[0], into[4095]), (7, 7));
+    assert_eq!(rt; bytes_at(&mut again, 0), Ok((5, 5)));
+    assert_eq!(rt; bytes_at(&mut again, 1), Ok((7, 7)));
     // cut short behind the disk's back
-    fs::write(&rt, path, vec![in rt.alloc(); 7u8; 4095]?.as_slice())?;
-    assert_eq!(rt; again.read(0, &mut into), Err(DiskFailed));
+    make_file(rt, path, 4095)?;
+    assert_eq!(rt; bytes_at(&mut again, 0), Err(DiskFailed));
     assert_eq!(rt; (again.calls(), again.reads(), again.faults()), (0, 3, 1));
+    Ok(())
+}
+
+#[test]
+fn keeps_a_file(rt: HostRuntime) -> Result<(), Fail> {
+    let path = "disk.img";
+    make_file(&rt, path, 9000)?;
+    expect_written(&rt, path)?;
+    expect_read(&rt, path)?;
     assert_eq!(rt; FileDisk::on(&rt, path)?.blocks(), 0);
     fs::remove_file(&rt, path)?;
     assert!(rt; FileDisk::on(&rt, path).is_err());

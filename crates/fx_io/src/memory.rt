@@ -1,5 +1,5 @@
 //! A source and a sink in memory, whose calls fail on demand.
-ghost use Rattle.std.specs.Prelude.{None, Some, ◌≡◌, ◌<◌, ◌≤◌, ◌++◌, ◌↔◌, [], length, take, Contains, IfOk, IsTrue, IsErr, OnOk, OnErr, is_ok, if◌then◌else◌};
+ghost use Rattle.std.specs.Prelude.{None, Some, ◌≡◌, ◌<◌, ◌≤◌, ◌++◌, ◌↔◌, [], length, min, take, Contains, IfOk, IsTrue, IsErr, OnOk, OnErr, is_ok, if◌then◌else◌};
 ghost use Rattle.fx_io.specs.Memory.{one_more};
 
 use super::{Failed, Sink, Source};
@@ -46,7 +46,8 @@ impl Calls {
     }
 }
 
-/// A source in memory: gives its bytes in order, and fails at the listed calls. A call walks the list
+/// A source in memory: gives its bytes in order, as many as a call has room for, and fails at the
+/// listed calls. A call walks the list
 /// of failing calls; else it costs the bytes that it gives.
 #[derive(Debug, Drop)]
 pub struct MemSource {
@@ -92,7 +93,7 @@ impl Source for MemSource {
     fn read(&mut self, into: &mut [u8]) -> Result<usize, Failed>
         requires { 0 < length into.old }
         ensures count { IfOk result (λ n. n ≤ length into.new) }
-        ensures piece { IfOk result (λ n. n ≤ self.old.piece) }
+        ensures piece { IfOk result (λ n. n ≡ min (min (length into.new) (length self.old.left)) self.old.piece) }
         ensures gives { IfOk result (λ n. self.old.left ≡ take n into.new ++ self.new.left) }
         ensures ended { IfOk result (λ n. n ≡ 0 → self.new.left ≡ []) }
         ensures kept { OnErr result (self.new.left ≡ self.old.left) }
@@ -179,7 +180,7 @@ impl Sink for MemSink {
 
     fn write(&mut self, piece: &[u8]) -> Result<usize, Failed>
         ensures count { IfOk result (λ n. n ≤ length piece.now) }
-        ensures piece { IfOk result (λ n. n ≤ self.old.piece) }
+        ensures piece { IfOk result (λ n. n ≡ min (length piece.now) self.old.piece) }
         ensures moves { 0 < length piece.now → IfOk result (λ n. 0 < n) }
         ensures takes { IfOk result (λ n. self.new.text ≡ self.old.text ++ take n piece.now) }
         ensures kept { OnErr result (self.new.text ≡ self.old.text) }

@@ -1,5 +1,7 @@
 //! The standard streams as a source and a sink. They tell no bytes, only how many calls failed.
-ghost use Rattle.std.specs.Prelude.{None, ◌≡◌, ◌<◌, ◌≤◌, IfSome, IfOk, length};
+ghost use Rattle.std.specs.Prelude.{None, ◌≡◌, ◌<◌, ◌≤◌, IfSome, IfOk, OnOk, OnErr, MatchOption, length, take};
+ghost use Rattle.std.specs.Io.KnownBytes.{Keeps, Consumes, ReadConsumes, IsAtEnd};
+ghost use Rattle.fx_base.specs.Causes.{Rose};
 
 use super::{Failed, Sink, Source};
 use std::alloc::{AllocError, Global};
@@ -7,7 +9,8 @@ use std::io::{BufReader, ErrorKind, Read};
 use std::marker::Model;
 
 /// Standard input as a source. A read of fewer bytes than its buffer holds (8 KiB) is served from
-/// the buffer, so that small reads cost no system call each; a larger one goes to the system.
+/// the buffer, so that small reads cost no system call each; a larger one goes to the system. What the
+/// reader behind it gives is passed on, and none of it is lost.
 #[derive(Drop)]
 pub struct StdSource<R: Read + Drop> {
     reader: BufReader<R>,
@@ -15,17 +18,18 @@ pub struct StdSource<R: Read + Drop> {
 }
 
 impl<R: Read + Drop> Model for StdSource<R> {
-    ghost use Rattle.std.specs.Prelude.{ℕ};
+    ghost use Rattle.std.specs.Io.Buffered.{reader_remaining};
+    ghost use Rattle.fx_io.specs.Standard.{ReaderSource};
 
-    ghost Value = { ℕ };
+    ghost Value = { ReaderSource };
 
-    ghost view = { λ s. s.faults };
+    ghost view = { λ s. record { left = reader_remaining R.Read.remaining s.reader; faults = s.faults } };
 }
 
 impl<R: Read + Drop> StdSource<R> {
     /// Standard input, of which no call has failed yet. Fails where there is no memory for the buffer.
     pub fn on<I: Input<Reader = R>>(rt: &I, alloc: Global) -> Result<StdSource<R>, AllocError>
-        ensures { IfOk result (λ s. s ≡ 0) }
+        ensures { IfOk result (λ s. s.faults ≡ 0) }
     {
         let Ok(reader) = BufReader::new(alloc, rt.reader()) else {
             return Err(AllocError);
@@ -37,9 +41,18 @@ impl<R: Read + Drop> StdSource<R> {
 impl<R: Read + Drop> Source for StdSource<R> {
     ghost left = { λ s. None };
 
-    ghost fault_count = { λ s. s };
+    ghost fault_count = { λ s. s.faults };
 
-    fn read(&mut self, into: &mut [u8]) -> Result<usize, Failed> {
+    fn read(&mut self, into: &mut [u8]) -> Result<usize, Failed>
+        requires { 0 < length into.old }
+        ensures count { IfOk result (λ n. n ≤ length into.new) }
+
+        // Where the reader tells its bytes, those that it gave are given, and none is lost.
+        ensures passes { ReadConsumes self.old.left self.new.left result into.new }
+        ensures failed { OnErr result (Rose self.old.faults self.new.faults) }
+        ensures unfailed { OnOk result (self.new.faults ≡ self.old.faults) }
+        ensures grows { self.old.faults ≤ self.new.faults }
+    {
         match read_some(&mut self.reader, into) {
             Some(count) => Ok(count),
             None => {
@@ -56,7 +69,9 @@ impl<R: Read + Drop> Source for StdSource<R> {
 
 /// One read, made again where a signal interrupted it; none where it failed.
 fn read_some<R: Read>(reader: &mut R, into: &mut [u8]) -> Option<usize>
-    ensures { IfSome result (λ n. n ≤ length into.new) }
+    ensures count { IfSome result (λ n. n ≤ length into.new) }
+    ensures passes { MatchOption result (Keeps (R.remaining reader.old) (R.remaining reader.new)) (λ n. Consumes (R.remaining reader.old) (R.remaining reader.new) (take n into.new)) }
+    ensures ended { IfSome result (λ n. n ≡ 0 → 0 < length into.new → IsAtEnd (R.remaining reader.new)) }
 {
     for _ in 0..u64::MAX {
         match reader.read(into) {

@@ -1,14 +1,15 @@
 -- The answers of the ring's calls.
-use Rattle.std.specs.Prelude.{ℕ, Option, Some, None, List, [], ◌∷◌, ◌+◌, ◌%◌}
+use Rattle.std.specs.Prelude.{ℕ, Option, Some, None, List, [], ◌∷◌}
 use Rattle.fx_jblock.specs.Block.{journal_block}
 use Rattle.fx_journal.specs.Ring.{RingState, Queued, live, want}
+use Rattle.fx_journal.specs.Stream.{place_of}
 use Rattle.fx_journal.specs.declared.ring.Wrote.{Wrote}
 use Rattle.fx_journal.specs.declared.ring.Wrote.TheVariants.{Block, Nothing}
 use Rattle.fx_journal.specs.declared.ring.Full.{Full}
 
 -- the disk block of a sequence number
 abbrev pub block_at : RingState → ℕ → ℕ
-block_at ring sequence = 2 + sequence % ring.size
+block_at ring sequence = place_of ring.size sequence
 
 -- the bytes of the first block
 abbrev pub first_bytes : ℕ → List Queued → List ℕ

@@ -2,8 +2,10 @@
 ghost use Rattle.std.specs.Prelude.{◌≡◌, ◌≢◌, ◌↔◌, ℕ, ◌+◌, ◌-◌, ◌*◌, ◌/◌, ◌%◌, ◌^◌, ◌<◌, ◌≤◌, min, List, [], ◌∷◌, ◌++◌, length, take, drop, Some, None, Ok, Err, IsErr, IfOk, IfErr, OnOk, OnErr, is_ok};
 ghost use Rattle.fx_base.specs.Causes.{Rose};
 ghost use Rattle.fx_disk.specs.Steps.{Writes, MadeOrNot};
+ghost use Rattle.fx_pool.specs.Region.{IsSound};
 ghost use Rattle.fx_journal.specs.Ring.{begun, want};
 
+use crate::place::block_number;
 use crate::ring_buffers::{give_first, give_last, pack_into, take_blocks, write_buffer};
 use fx_disk::{Disk, DiskFailed};
 use fx_jblock::{RECORD_BYTES, Start};
@@ -336,6 +338,7 @@ impl Ring {
 
         // A fault is the disk's, and leaves all else as it was.
         ensures fault { OnErr result (Rose (D.faults disk.old) (D.faults disk.new)) }
+        ensures unfailed { OnOk result (D.faults disk.new ≡ D.faults disk.old) }
         ensures fault_ring { OnErr result (self.new ≡ self.old) }
         ensures fault_pool { OnErr result (pool.new ≡ pool.old) }
 
@@ -349,7 +352,7 @@ impl Ring {
         let Some(sequence) = self.next_to_write(before) else {
             return Ok(Wrote::Nothing);
         };
-        let at = 2 + (sequence % u64::from(self.size)) as u32;
+        let at = block_number(self.size, sequence);
         let Some(buffer) = self.buffers.front() else {
             unreachable!();
         };
@@ -387,6 +390,7 @@ impl Ring {
     pub fn close(self, pool: &mut Pool)
         requires buffers { KeepsBuffers self.buffers pool.old }
         ensures given { blocks_out pool.new + length self.buffers ≡ blocks_out pool.old }
+        ensures sound { IsSound pool.new }
         ensures others { KeepsOthers self.buffers pool.old pool.new }
     {
         let Ring {

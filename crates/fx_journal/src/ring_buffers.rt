@@ -1,5 +1,5 @@
 //! The buffers of the ring: one block each, in one queue.
-ghost use Rattle.std.specs.Prelude.{OnErr, is_ok, ◌≡◌, ◌≢◌, ℕ, ◌+◌, ◌-◌, ◌*◌, ◌^◌, ◌<◌, ◌≤◌, List, ◌++◌, ◌∷◌, length, take, drop};
+ghost use Rattle.std.specs.Prelude.{OnOk, OnErr, is_ok, ◌≡◌, ◌≢◌, ℕ, ◌+◌, ◌-◌, ◌*◌, ◌^◌, ◌<◌, ◌≤◌, List, ◌++◌, ◌∷◌, length, take, drop};
 ghost use Rattle.std.specs.VecDeque.{deque_len, deque_capacity};
 ghost use Rattle.fx_sum.specs.Checksum.{fletch};
 ghost use Rattle.fx_base.specs.Causes.{Rose};
@@ -160,6 +160,7 @@ pub(crate) fn write_buffer<D: Disk>(
     ensures made { MadeOrNot (D.calls disk.old) (D.calls disk.new) (D.last_made disk.new) (is_ok result)
         (Writes (D.told disk.old) (D.told disk.new) at (bytes_of pool.now buffer.now) (is_ok result)) (D.told disk.new ≡ D.told disk.old) }
     ensures fault { OnErr result (Rose (D.faults disk.old) (D.faults disk.new)) }
+    ensures unfailed { OnOk result (D.faults disk.new ≡ D.faults disk.old) }
     ensures size { D.size disk.new ≡ D.size disk.old }
     ensures reads { D.reads disk.new ≡ D.reads disk.old }
     ensures faults { D.faults disk.old ≤ D.faults disk.new }

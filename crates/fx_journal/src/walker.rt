@@ -1,5 +1,5 @@
 //! Reading the stream from a disk.
-ghost use Rattle.std.specs.Prelude.{◌≡◌, ◌+◌, ◌-◌, ◌<◌, ◌≤◌, ◌^◌, min, [], ◌∷◌, ◌++◌, length, IfOk, OnOk, IsErrOf};
+ghost use Rattle.std.specs.Prelude.{◌≡◌, ◌≢◌, ◌+◌, ◌-◌, ◌<◌, ◌≤◌, ◌^◌, min, [], ◌∷◌, ◌++◌, length, IfOk, OnOk, IsErrOf, Err};
 ghost use Rattle.std.specs.Option.{IfSome};
 ghost use Rattle.fx_base.specs.Causes.{Rose};
 ghost use Rattle.fx_journal.specs.Stream.{IsStream, IsSeries, IsNext};
@@ -14,7 +14,7 @@ use std::alloc::{AllocError, Global};
 /// Reads the stream from the start on: the longest list of at most `ring` blocks that continue each
 /// other, from the block of the start's sequence on. The ring is the disk's blocks 2 to `ring + 1`.
 ///
-/// `Device` comes only where the disk's count of faults rose. The disk is only read: each block of the
+/// `Device` comes only where the disk's count of faults rose, and nothing else comes there. The disk is only read: each block of the
 /// stream once, and the one after it where the ring has it. It takes the memory of the record bytes,
 /// and the time of one pass over the blocks that are read.
 pub fn walk<D: Disk>(
@@ -48,6 +48,7 @@ pub fn walk<D: Disk>(
 
     ensures faults { D.faults disk.old ≤ D.faults disk.new }
     ensures device { IsErrOf result WalkFault.Device → Rose (D.faults disk.old) (D.faults disk.new) }
+    ensures unfailed { result ≢ Err WalkFault.Device → D.faults disk.new ≡ D.faults disk.old }
 {
     let mut items = Vec::new(alloc);
     let mut next = start;

@@ -110,9 +110,13 @@ listed-free orders places lists k i s u h lt e b f =
     subst (λ (x : ℕ). HasRun orders x k) (sym w) (h.indexed.free k i (omega (arith, u.ok.0, ap (λ (l : List ℕ). length l) su)))
 
 -- where the lists from an order up are empty no run has that order or more
+-- an order whose list is empty has no run
+pub none-at : (orders : List (Option ℕ)) (places : List ℕ) (lists : List (Vec ℕ Global)) (s k : ℕ) → IsKept orders places lists → length (starts lists k) ≡ 0 → HasRun orders s k → ⊥
+none-at orders places lists s k h empty r = omega (arith, h.indexed.within s k r, empty)
+
 pub none-from : (orders : List (Option ℕ)) (places : List ℕ) (lists : List (Vec ℕ Global)) (order top : ℕ) → IsKept orders places lists → 13 ≤ top → ((j : ℕ) → order ≤ j → j < top → length (starts lists j) ≡ 0) → (s k : ℕ) → order ≤ k → HasRun orders s k → ⊥
 none-from orders places lists order top h ge empty s k a r =
-    omega (arith, h.indexed.within s k r, empty k a (omega (arith, order-below orders places lists s k h r)))
+    none-at orders places lists s k h (empty k a (omega (arith, order-below orders places lists s k h r))) r
 
 pub counted-is : (orders : List (Option ℕ)) (places : List ℕ) (lists : List (Vec ℕ Global)) (k : ℕ) (u : Vec ℕ Global) → IsKept orders places lists → k < 13 → u ≡ get_or lists k u → vec_len u ≡ count_by (is_order k) orders
 counted-is orders places lists k u h lt e = omega (arith, u.ok.0, ap (λ (l : List ℕ). length l) (starts-is lists k u (omega (arith, h.lists_len)) e), h.indexed.counted k)

@@ -71,11 +71,12 @@ pub record HasFree (p : Region) (k : ℕ) : Type 0 where
   pub at_least : k ≤ order
   pub free : HasRun p.free start order
 
--- a free run in which the run lies
+-- a free run in which the run lies, of the lowest order that serves
 pub record LiesFree (p : Region) (r : Run) : Type 0 where
   pub start : ℕ
   pub order : ℕ
   pub free : HasRun p.free start order
+  pub lowest : (s k : ℕ) → r.order ≤ k → HasRun p.free s k → order ≤ k
   pub low : start ≤ r.start
   pub high : r.start + 2 ^ r.order ≤ start + 2 ^ order
 

@@ -79,6 +79,7 @@ impl FreeRuns {
     pub fn lowest_from(&self, order: u8) -> Option<FreeRun>
         ensures none { IsNone result ↔ ((s k : ℕ) → order ≤ k → slice_index_or self.now s None ≢ Some k) }
         ensures found { IfSome result (λ run. (order ≤ run.order) × (run.order ≤ 12) × HasRun self.now run.start run.order) }
+        ensures lowest { IfSome result (λ run. (s k : ℕ) → order ≤ k → HasRun self.now s k → run.order ≤ k) }
     {
         for k in order..ORDERS {
             if let Some(start) = self.lists[usize::from(k)].last() {

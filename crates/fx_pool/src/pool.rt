@@ -31,6 +31,7 @@ impl Model for Buf {
     ghost invariant = { λ b. (b.start < 4096) × (b.order ≤ 12) };
 }
 
+/// A region of blocks, each of which is free or in a buffer that is out.
 #[derive(Drop)]
 pub struct Pool {
     order: u8,
@@ -105,8 +106,9 @@ impl Pool {
         })
     }
 
-    /// Takes a buffer of `2^order` blocks, which begins at a multiple of its length; `None` exactly where no
-    /// free run has that order or more. The bytes are as they were left. Takes no memory; costs the number of
+    /// Takes a buffer of `2^order` blocks, which begins at a multiple of its length, out of a free run of the
+    /// lowest order that serves; `None` exactly where no free run has that order or more. The bytes are as
+    /// they were left. Takes no memory; costs the number of
     /// orders.
     pub fn take(&mut self, order: u8) -> Option<Buf>
         ensures none { IsNone result ↔ (HasFree self.old order → ⊥) }

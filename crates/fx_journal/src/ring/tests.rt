@@ -61,11 +61,11 @@ fn pad(ring: &mut Ring, pool: &mut Pool) -> Start
     ring.pad(pool)
 }
 
-fn write(
+fn write<D: Disk>(
     rt: &impl Abort,
     ring: &mut Ring,
     pool: &mut Pool,
-    disk: &mut MemDisk,
+    disk: &mut D,
     before: u64,
 ) -> Result<Wrote, DiskFailed>
     requires { IsReady ring.old pool.old }
@@ -84,7 +84,7 @@ fn free_before(rt: &impl Abort, ring: &mut Ring, pool: &mut Pool, sequence: u64)
     ring.free_before(pool, sequence);
 }
 
-fn read(rt: &impl Abort, disk: &mut MemDisk, at: u32) -> [u8; 4096] {
+fn read<D: Disk>(rt: &impl Abort, disk: &mut D, at: u32) -> [u8; 4096] {
     let mut block = [0xff; 4096];
     assert!(rt; at < disk.blocks());
     assert!(rt; disk.read(at, &mut block).is_ok());
@@ -111,25 +111,65 @@ fn disk_with_a_fault(alloc: Global) -> Result<MemDisk, AllocError> {
     Ok(disk)
 }
 
-// Appends 4,070 bytes in two records, pads, and writes the two blocks. The second write fails first.
-fn write_two(rt: &impl Abort, ring: &mut Ring, pool: &mut Pool, disk: &mut MemDisk) -> Start
+fn expect_reserved(rt: &impl Abort, ring: &mut Ring, pool: &mut Pool, bytes: u32)
+    requires ready { IsReady ring.old pool.old }
+    requires few { bytes < 1040384 }
+    ensures { IsReady ring.new pool.new }
+{
+    assert!(rt; reserve(ring, pool, bytes).is_ok());
+}
+
+fn expect_full(rt: &impl Abort, ring: &mut Ring, pool: &mut Pool, bytes: u32, full: Full)
+    requires ready { IsReady ring.old pool.old }
+    requires few { bytes < 1040384 }
+    ensures { IsReady ring.new pool.new }
+{
+    assert!(rt; reserve(ring, pool, bytes) == Err(full));
+}
+
+fn expect_write<D: Disk>(
+    rt: &impl Abort,
+    ring: &mut Ring,
+    pool: &mut Pool,
+    disk: &mut D,
+    before: u64,
+    wanted: Result<Wrote, DiskFailed>,
+)
     requires { IsReady ring.old pool.old }
     ensures { IsReady ring.new pool.new }
 {
-    assert!(rt; reserve(ring, pool, 4070).is_ok());
-    assert!(rt; write(rt, ring, pool, disk, 256) == Ok(Wrote::Nothing));
+    assert!(rt; write(rt, ring, pool, disk, before) == wanted);
+}
+
+// Appends 4,070 bytes in two records, pads, and writes the two blocks. The second write fails first.
+fn write_two<D: Disk>(rt: &impl Abort, ring: &mut Ring, pool: &mut Pool, disk: &mut D) -> Start
+    requires { IsReady ring.old pool.old }
+    ensures { IsReady ring.new pool.new }
+{
+    expect_reserved(rt, ring, pool, 4070);
+    expect_write(rt, ring, pool, disk, 256, Ok(Wrote::Nothing));
     append(rt, ring, pool, &[b'a'; 4060]);
     append(rt, ring, pool, b"0123456789");
-    assert!(rt; write(rt, ring, pool, disk, 255) == Ok(Wrote::Nothing));
-    assert!(rt; write(rt, ring, pool, disk, 256) == Ok(Wrote::Block(255)));
-    assert!(rt; write(rt, ring, pool, disk, 257) == Ok(Wrote::Nothing));
+    expect_write(rt, ring, pool, disk, 255, Ok(Wrote::Nothing));
+    expect_write(rt, ring, pool, disk, 256, Ok(Wrote::Block(255)));
+    expect_write(rt, ring, pool, disk, 257, Ok(Wrote::Nothing));
     let after = pad(ring, pool);
-    assert!(rt; write(rt, ring, pool, disk, 257) == Err(DiskFailed));
-    assert!(rt; write(rt, ring, pool, disk, 257) == Ok(Wrote::Block(256)));
+    expect_write(rt, ring, pool, disk, 257, Err(DiskFailed));
+    expect_write(rt, ring, pool, disk, 257, Ok(Wrote::Block(256)));
     after
 }
 
-// Block 255 stands in the ring's last place, block 256 in its first.
+// The chain after the two blocks: 255 stands in the ring's last place, 256 in its first.
+fn chain_after_two<D: Disk>(rt: &impl Abort, disk: &mut D) -> u64 {
+    let last = read(rt, disk, 257);
+    assert!(rt; last[24] == b'a' && last[4083] == b'a');
+    assert!(rt; last[4084] == b'0' && last[4087] == b'3');
+    let first = read(rt, disk, 2);
+    assert!(rt; first[24] == b'4' && first[29] == b'9' && first[30] == 0);
+    let chain = chain_after(rt, &last, 255, 9, 4064);
+    chain_after(rt, &first, 256, chain, 6)
+}
+
 #[test]
 fn goes_on_at_the_front(rt: HostRuntime) -> Result<(), Fail> {
     let mut disk = disk_with_a_fault(rt.alloc())?;
@@ -149,24 +189,23 @@ fn goes_on_at_the_front(rt: HostRuntime) -> Result<(), Fail> {
     assert!(rt; pad(&mut ring, &mut pool) == after);
     free_before(&rt, &mut ring, &mut pool, 257);
     ring.close(&mut pool);
-    let last = read(&rt, &mut disk, 257);
-    assert!(rt; last[24] == b'a' && last[4083] == b'a');
-    assert!(rt; last[4084] == b'0' && last[4087] == b'3');
-    let first = read(&rt, &mut disk, 2);
-    assert!(rt; first[24] == b'4' && first[29] == b'9' && first[30] == 0);
-    let chain = chain_after(&rt, &last, 255, 9, 4064);
-    let chain = chain_after(&rt, &first, 256, chain, 6);
-    assert!(rt;
-        after
-            == Start {
-                sequence: 257,
-                chain,
-                floor: 2
-            }
-    );
+    let wanted = Start {
+        sequence: 257,
+        chain: chain_after_two(&rt, &mut disk),
+        floor: 2,
+    };
+    assert!(rt; after == wanted);
     assert_eq!(rt; disk.calls(), 3);
     assert_eq!(rt; pool.free_of(9), 1);
     Ok(())
+}
+
+fn counted(live: u32, promised: u32, want: u32) -> Full {
+    Full {
+        live,
+        promised,
+        want,
+    }
 }
 
 // The ring of 256 blocks has 254 blocks to promise where none is closed.
@@ -174,37 +213,13 @@ fn fill(rt: &impl Abort, ring: &mut Ring, pool: &mut Pool, bytes: &[u8])
     requires { IsReady ring.old pool.old }
     ensures { IsReady ring.new pool.new }
 {
-    let beyond = reserve(ring, pool, 1_032_257);
-    assert!(rt;
-        beyond
-            == Err(Full {
-                live: 1,
-                promised: 0,
-                want: 255
-            })
-    );
-    assert!(rt; reserve(ring, pool, 1_032_256).is_ok());
-    let beyond = reserve(ring, pool, 1);
-    assert!(rt;
-        beyond
-            == Err(Full {
-                live: 1,
-                promised: 254,
-                want: 1
-            })
-    );
+    expect_full(rt, ring, pool, 1_032_257, counted(1, 0, 255));
+    expect_reserved(rt, ring, pool, 1_032_256);
+    expect_full(rt, ring, pool, 1, counted(1, 254, 1));
     cancel(rt, ring, pool, 4064);
-    assert!(rt; reserve(ring, pool, 1).is_ok());
+    expect_reserved(rt, ring, pool, 1);
     append(rt, ring, pool, bytes);
-    let beyond = reserve(ring, pool, 1);
-    assert!(rt;
-        beyond
-            == Err(Full {
-                live: 255,
-                promised: 0,
-                want: 1
-            })
-    );
+    expect_full(rt, ring, pool, 1, counted(255, 0, 1));
 }
 
 #[test]
@@ -219,19 +234,11 @@ fn fills_to_the_last_block(rt: HostRuntime) -> Result<(), Fail> {
     let mut ring = at_start(rt.alloc(), &pool, start, 0, start)?;
     fill(&rt, &mut ring, &mut pool, &bytes);
     free_before(&rt, &mut ring, &mut pool, 256);
-    assert!(rt; reserve(&mut ring, &mut pool, 1).is_ok());
+    expect_reserved(&rt, &mut ring, &mut pool, 1);
     append(&rt, &mut ring, &mut pool, b"x");
     let after = pad(&mut ring, &mut pool);
     assert_eq!(rt; after.sequence, 510);
-    let beyond = reserve(&mut ring, &mut pool, 1);
-    assert!(rt;
-        beyond
-            == Err(Full {
-                live: 255,
-                promised: 0,
-                want: 1
-            })
-    );
+    expect_full(&rt, &mut ring, &mut pool, 1, counted(255, 0, 1));
     ring.close(&mut pool);
     assert_eq!(rt; pool.free_of(9), 1);
     Ok(())

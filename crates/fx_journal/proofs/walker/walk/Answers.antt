@@ -25,7 +25,7 @@ reading-preserved g c =
       calls = c.in-Ok.ensures.calls ∙ c.reading.invariant.calls;
       last_made = c.in-Ok.ensures.last_made ∙ c.reading.invariant.last_made;
       reads = omega (arith, longer, c.in-Ok.ensures.limit);
-      faults = omega arith;
+      faults = c.in-Ok.ensures.unfailed ∙ c.reading.invariant.faults;
     }
 
 pub returns-clause-stream : goal.returns-clause-stream

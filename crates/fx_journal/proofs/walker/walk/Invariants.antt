@@ -14,7 +14,7 @@ invariant-reading g l = record {
   calls : g.D.Disk.calls l.disk ≡ g.D.Disk.calls l.fn.disk;
   last_made : g.D.Disk.last_made l.disk ≡ g.D.Disk.last_made l.fn.disk;
   reads : g.D.Disk.reads l.disk ≡ g.D.Disk.reads l.fn.disk + length l.items.items;
-  faults : g.D.Disk.faults l.fn.disk ≤ g.D.Disk.faults l.disk;
+  faults : g.D.Disk.faults l.disk ≡ g.D.Disk.faults l.fn.disk;
 }
 
 abbrev pub decreases-reading : goal.decreases-reading

@@ -28,6 +28,7 @@ returns-in_default g c =
       size = refl;
       reads = refl;
       faults = omega arith;
+      unfailed = refl;
       ring = subst IsRing c.self.view_is c.self.invariant.0;
       buffers = c.requires.buffers;
       others = others-none c.args.self.now.buffers c.args.pool.now;
@@ -49,7 +50,7 @@ write_buffer-requires g c =
     record {
       out = subst (λ (r : Run). IsOut c.args.pool.now r) at (kept.out 0 some);
       single = sym (ap (λ (r : Run). r.order) at) ∙ kept.single 0 some;
-      within = omega (arith, c.requires.disk, c.from.ensures, ap (λ (r : RingState). r.size) c.self.view_is, c.self.invariant.0.least);
+      within = omega (arith, c.requires.disk, c.block_number-at.ensures.within, ap (λ (r : RingState). r.size) c.self.view_is);
     }
 
 pub returns-in-Err : goal.returns-in-Err
@@ -60,7 +61,7 @@ returns-in-Err g c =
     let at : run_at c.args.self.now.buffers 0 ≡ c.in-Some-front.buffer.now =
     ap (λ (r : RingState). run_at r.buffers 0) (sym c.self.view_is)
     ∙ sym (c.in-Some-front.ensures.lookup ∙ get_or_default i.buffers.items 0 c.in-Some-front.buffer.now (record { start = 0; order = 0 }) here) in
-    let size : c.from.result ≡ c.args.self.now.size = c.from.ensures ∙ ap (λ (r : RingState). r.size) c.self.view_is in
+    let place : c.block_number-at.result ≡ block_at c.args.self.now c.in-Some.sequence = c.block_number-at.ensures.place ∙ ap (λ (r : RingState). block_at r c.in-Some.sequence) c.self.view_is in
     record {
       answer = tt;
       nothing = λ e. cc;
@@ -69,7 +70,7 @@ returns-in-Err g c =
       nothing_disk = λ e. cc;
       made = λ s queue e h.
           let same : c.in-Some.sequence ≡ s = cc in
-          made-as _ _ _ _ _ _ _ _ _ _ _ (ap (λ (n : ℕ). 2 + c.in-Some.sequence % n) size ∙ ap (λ (n : ℕ). 2 + n % c.args.self.now.size) same)
+          made-as _ _ _ _ _ _ _ _ _ _ _ (place ∙ ap (block_at c.args.self.now) same)
           (ap (bytes_of c.args.pool.now) (sym at) ∙ first-written c.args.self.now c.args.pool.now c.args.before s queue e h) c.in-Err.ensures.made;
       written = λ s e. tt;
       queue = λ s queue e h. tt;
@@ -81,6 +82,7 @@ returns-in-Err g c =
       size = c.in-Err.ensures.size;
       reads = c.in-Err.ensures.reads;
       faults = c.in-Err.ensures.faults;
+      unfailed = tt;
       ring = subst IsRing c.self.view_is c.self.invariant.0;
       buffers = c.requires.buffers;
       others = others-none c.args.self.now.buffers c.args.pool.now;
@@ -102,7 +104,7 @@ returns g c =
     let at : run_at c.args.self.now.buffers 0 ≡ c.in-Some-front.buffer.now =
     ap (λ (r : RingState). run_at r.buffers 0) (sym c.self.view_is)
     ∙ sym (c.in-Some-front.ensures.lookup ∙ get_or_default i.buffers.items 0 c.in-Some-front.buffer.now (record { start = 0; order = 0 }) here) in
-    let size : c.from.result ≡ c.args.self.now.size = c.from.ensures ∙ ap (λ (r : RingState). r.size) c.self.view_is in
+    let place : c.block_number-at.result ≡ block_at c.args.self.now c.in-Some.sequence = c.block_number-at.ensures.place ∙ ap (λ (r : RingState). block_at r c.in-Some.sequence) c.self.view_is in
     let left : c.give_first.new.buffers.items ≡ drop 1 i.buffers.items = c.give_first.ensures.left in
     let leaves : without_first ring ≡ without_first c.args.self.now = ap without_first c.self.view_is in
     record {
@@ -113,7 +115,7 @@ returns g c =
       nothing_disk = λ e. cc;
       made = λ s queue e h.
           let same : c.in-Some.sequence ≡ s = cc in
-          made-as _ _ _ _ _ _ _ _ _ _ _ (ap (λ (n : ℕ). 2 + c.in-Some.sequence % n) size ∙ ap (λ (n : ℕ). 2 + n % c.args.self.now.size) same)
+          made-as _ _ _ _ _ _ _ _ _ _ _ (place ∙ ap (block_at c.args.self.now) same)
           (ap (bytes_of c.args.pool.now) (sym at) ∙ first-written c.args.self.now c.args.pool.now c.args.before s queue e h) c.in_default-write_buffer.ensures.made;
       written = λ s e. ap (λ (l : List Run). let next : RingState = record { start = i.start; size = i.size; epoch = i.epoch; closed = i.closed; chain = i.chain; text = i.text.items; promised = i.promised; queued = i.queued - 1; buffers = l } in next) left ∙ leaves;
       queue = λ s queue e.
@@ -127,6 +129,7 @@ returns g c =
       size = c.in_default-write_buffer.ensures.size;
       reads = c.in_default-write_buffer.ensures.reads;
       faults = c.in_default-write_buffer.ensures.faults;
+      unfailed = c.in_default-write_buffer.ensures.unfailed;
       ring = subst (λ (l : List Run). let next : RingState = record { start = i.start; size = i.size; epoch = i.epoch; closed = i.closed; chain = i.chain; text = i.text.items; promised = i.promised; queued = i.queued - 1; buffers = l } in IsRing next) (sym left) (ring-without_first ring c.self.invariant.0 waits);
       buffers = c.give_first.ensures.buffers;
       others = subst (λ (r : RingState). KeepsOthers r.buffers c.args.pool.now c.give_first.new.pool) c.self.view_is c.give_first.ensures.others;

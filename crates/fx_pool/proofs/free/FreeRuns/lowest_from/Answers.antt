@@ -1,8 +1,8 @@
 use Rattle.std.proofs.Common.{◌≡◌, ◌-◌, ℕ, List, Option, get_or, length, ap, sym, subst, refl, arith, inl, inr}
-use Rattle.std.proofs.lemmas.Bool.{cases_eq, true≢false}
+use Rattle.std.proofs.lemmas.Bool.{cases_eq, cases_lt, true≢false}
 use Rattle.fx_pool.specs.Region.{HasRun}
 use Rattle.fx_pool.specs.Indexed.{starts}
-use Rattle.fx_pool.proofs.Kept.{listed-free, starts-is, none-from}
+use Rattle.fx_pool.proofs.Kept.{listed-free, starts-is, none-from, none-at}
 use Rattle.fx_pool.proofs.free.FreeRuns.lowest_from.Goals as goal
 
 found : (c : goal.After-row_known-1) → HasRun c.args.self.now c.in-Some.start.now c.loop-k.k
@@ -28,3 +28,9 @@ loop-k-preserved c j a b = elim (cases_eq j c.loop-k.k) [
 
 pub returns-clause-none : goal.returns-clause-none
 returns-clause-none c = (λ e s k a r. none-from c.self.inside.orders.items c.self.inside.places.items c.self.inside.lists.items c.args.order c.loop-k.k c.self.invariant (omega (arith, c.loop-k-test.false)) c.loop-k.invariant s k a (subst (λ (l : List (Option ℕ)). HasRun l s k) (sym c.self.view_is) r), λ none. refl)
+
+pub returns-in-Some-clause-lowest : goal.returns-in-Some-clause-lowest
+returns-in-Some-clause-lowest c s k a r = elim (cases_lt k c.loop-k.k) [
+  | inl lt ↦ absurd (none-at c.self.inside.orders.items c.self.inside.places.items c.self.inside.lists.items s k c.self.invariant (c.loop-k.invariant k a lt) (subst (λ (l : List (Option ℕ)). HasRun l s k) (sym c.self.view_is) r))
+  | inr ge ↦ ge
+]

@@ -81,6 +81,7 @@ returns-clause-was_free c = record {
   start = c.in_ok-start.field-0.start;
   order = c.in_ok-start.field-0.order;
   free = subst (λ (p : Region). HasRun p.free c.in_ok-start.field-0.start c.in_ok-start.field-0.order) c.self.view_is c.in_ok-start.ensures.found.2;
+  lowest = λ s k a r. c.in_ok-start.ensures.lowest s k a (subst (λ (p : Region). HasRun p.free s k) (sym c.self.view_is) r);
   low = omega arith;
   high = omega (arith, pow-le-pow_right {n = 2} (omega arith) c.in_ok-start.ensures.found.0);
 }
