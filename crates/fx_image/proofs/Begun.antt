@@ -21,7 +21,7 @@ use Rattle.fx_image.specs.Chance.{NotByChance}
 use Rattle.fx_image.specs.Chosen.{Chooses, ChoosesEither, next_generation, start_of}
 use Rattle.fx_image.specs.Raising.{LeavesEither, ChoosesSince}
 use Rattle.fx_image.specs.Standing.{Transactions, StandsFor, HasAmpleRoom, items_after, kept, lists_of}
-use Rattle.fx_image.specs.Ring.{BeginsAs, BeginsWith, HasRing}
+use Rattle.fx_image.specs.Ring.{BeginsAs, BeginsWith, KeepsRing}
 use Rattle.fx_image.specs.Prefix.{IsPrefix}
 use Rattle.fx_image.specs.Journal.{Journal, IsJournal, HasJournal, IsOnDisk, begun_journal}
 use Rattle.fx_disk.proofs.Kept.{Always-now}
@@ -68,7 +68,7 @@ module _ (size from : ℕ) (tree : Tree) (base : ℕ) (super : Fields) (read : L
     }
 
     module _ (r : DiskRecord) (begins : (image : List (List ℕ)) → BeginsAs r from image → BeginsWith r from super image read place)
-        (ring : (image : List (List ℕ)) → BeginsAs r from image → HasRing r from super.ring (super.generation + 1) [] 0 0) (chooses : ChoosesSince from r) where
+        (ring : (image : List (List ℕ)) → BeginsAs r from image → KeepsRing r from super.ring (super.generation + 1) [] 0 0) (chooses : ChoosesSince from r) where
       prefix-either : (first left : List (List ℕ)) → BeginsAs r from first → LeftNow r left → NotByChance (cell_after r from) (cell_now r) super.generation left → ChoosesEither super left
           → IsPrefix size (HasAmpleRoom super txns) tree base [] (length r.calls) left
       prefix-either first left began is chance either =
@@ -95,7 +95,7 @@ module _ (size from : ℕ) (tree : Tree) (base : ℕ) (super : Fields) (read : L
       begins-flushed : (image : List (List ℕ)) → BeginsAs s from image → BeginsWith s from super image read place
       begins-flushed = begins-call r (Flush ok) r.contents from super read place d.since d.begins
 
-      ring-flushed : (image : List (List ℕ)) → BeginsAs s from image → HasRing s from super.ring (super.generation + 1) [] 0 0
+      ring-flushed : (image : List (List ℕ)) → BeginsAs s from image → KeepsRing s from super.ring (super.generation + 1) [] 0 0
       ring-flushed image began =
           let before : BeginsAs r from image = begins_as-before r (Flush ok) r.contents from d.since image began in
           let with : BeginsWith r from super image read place = d.begins image before in
@@ -144,7 +144,7 @@ module _ (size : ℕ) (r : DiskRecord) (is : IsRecordOf size (length r.calls) r)
         stream = subst (λ (x : List (List ℕ)). IsStream x super.ring super.generation (start_of super) read place) same stream;
       }
 
-  ring-read : (image : List (List ℕ)) → BeginsAs r from image → HasRing r from super.ring (super.generation + 1) [] 0 0
+  ring-read : (image : List (List ℕ)) → BeginsAs r from image → KeepsRing r from super.ring (super.generation + 1) [] 0 0
   ring-read image began = ring-begun r super.ring (super.generation + 1)
 
   pub begun-read : HasJournal (begun_journal size (length r.calls) tree base super read place txns) r
@@ -168,7 +168,7 @@ module _ (size : ℕ) (r : DiskRecord) (is : IsRecordOf size (length r.calls) r)
       begins-raised : (image : List (List ℕ)) → BeginsAs raised from image → BeginsWith raised from super image read place
       begins-raised = begins-call r (Write at bytes good) (set r.contents at held) from super read place (omega arith) begins-read
 
-      ring-raised : (image : List (List ℕ)) → BeginsAs raised from image → HasRing raised from super.ring (super.generation + 1) [] 0 0
+      ring-raised : (image : List (List ℕ)) → BeginsAs raised from image → KeepsRing raised from super.ring (super.generation + 1) [] 0 0
       ring-raised image began = ring-elsewhere r from super.ring (super.generation + 1) [] 0 0 (ring-begun r super.ring (super.generation + 1)) (omega (arith, h.reading.rules.ring_least)) at bytes good held (inl (low which))
 
       pub begun-raise : HasJournal (begun_journal size (length r.calls) tree base super read place txns) (with_write r (block_number (other which)) bytes good held)

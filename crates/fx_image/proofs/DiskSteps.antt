@@ -12,7 +12,7 @@ use Rattle.fx_journal.specs.declared.stream.StreamBlock.{StreamBlock}
 use Rattle.fx_journal.specs.Ring.{Queued}
 use Rattle.fx_super.specs.Super.{Fields}
 use Rattle.fx_image.specs.Raising.{ChoosesNext}
-use Rattle.fx_image.specs.Ring.{BeginsAs, BeginsWith, AreClosed, HasRing, place_in, bytes_in}
+use Rattle.fx_image.specs.Ring.{BeginsAs, BeginsWith, AreClosed, KeepsRing, place_in, bytes_in}
 use Rattle.fx_image.specs.Journal.{Journal, IsJournal, IsNextCommit, HasJournal, IsOnDisk, IsWrittenOut, with_commit, with_closed, with_written, with_flushed, with_settled}
 use Rattle.fx_image.proofs.Beginning.{begins_as-before, begins_with-after}
 use Rattle.fx_image.proofs.Closing.{ring-closes}
@@ -37,7 +37,7 @@ module _ (j : Journal) (r : DiskRecord) (d : IsOnDisk j r) where
   m = d.journal
 
   ring-more : (closed : List Queued) (chain : ℕ) → AreClosed j.super j.read j.place (j.blocks ++ closed) chain → (image : List (List ℕ)) → BeginsAs r j.from image
-      → HasRing r j.from j.super.ring (j.super.generation + 1) (j.blocks ++ closed) j.written j.settled
+      → KeepsRing r j.from j.super.ring (j.super.generation + 1) (j.blocks ++ closed) j.written j.settled
   ring-more closed chain blocks image began = ring-closes r j.from j.super image j.read j.place (m.begins image began) j.blocks closed chain blocks j.written j.settled (m.ring image began)
 
   pub disk-commit : (entry : Entry) (items : List PlainItem) (closed : List Queued) (chain : ℕ) (text : List ℕ) → IsNextCommit j entry items → AreClosed j.super j.read j.place (j.blocks ++ closed) chain → IsOnDisk (with_commit j entry items closed chain text) r
@@ -82,14 +82,14 @@ module _ (j : Journal) (calls : ℕ) (h : IsJournal j calls) (r : DiskRecord) (d
   begins-after : (ok : Bool) (image : List (List ℕ)) → BeginsAs (after ok) j.from image → BeginsWith (after ok) j.from j.super image j.read j.place
   begins-after ok = begins-call r (Write at bytes ok) (set r.contents at held) j.from j.super j.read j.place d.journal.since d.journal.begins
 
-  ring-before : (ok : Bool) (image : List (List ℕ)) → BeginsAs (after ok) j.from image → HasRing r j.from j.super.ring (j.super.generation + 1) j.blocks j.written j.settled
+  ring-before : (ok : Bool) (image : List (List ℕ)) → BeginsAs (after ok) j.from image → KeepsRing r j.from j.super.ring (j.super.generation + 1) j.blocks j.written j.settled
   ring-before ok image began = d.journal.ring image (begins_as-before r (Write at bytes ok) (set r.contents at held) j.from d.journal.since image began)
 
-  ring-tried : (ok : Bool) (image : List (List ℕ)) → BeginsAs (after ok) j.from image → HasRing (after ok) j.from j.super.ring (j.super.generation + 1) j.blocks j.written j.settled
+  ring-tried : (ok : Bool) (image : List (List ℕ)) → BeginsAs (after ok) j.from image → KeepsRing (after ok) j.from j.super.ring (j.super.generation + 1) j.blocks j.written j.settled
   ring-tried ok image began =
       ring-tries r j.from j.super j.read j.place j.blocks j.chain h.closed j.written j.settled (ring-before ok image began) j.written q here ok held (omega arith)
 
-  ring-written : (image : List (List ℕ)) → BeginsAs (after true) j.from image → HasRing (after true) j.from j.super.ring (j.super.generation + 1) j.blocks (j.written + 1) j.settled
+  ring-written : (image : List (List ℕ)) → BeginsAs (after true) j.from image → KeepsRing (after true) j.from j.super.ring (j.super.generation + 1) j.blocks (j.written + 1) j.settled
   ring-written image began =
       ring-writes r j.from j.super j.read j.place j.blocks j.chain h.closed j.written j.settled (ring-before true image began) j.written q here true held refl refl
 
@@ -141,12 +141,12 @@ module _ (j : Journal) (calls : ℕ) (h : IsJournal j calls) (r : DiskRecord) (d
       let with : BeginsWith r j.from j.super image j.read j.place = d.journal.begins image began in
       omega (arith, with.blocks, h.reading.rules.blocks_least)
 
-  ring-flushed : (ok : Bool) (image : List (List ℕ)) → BeginsAs (with_flush r ok) j.from image → HasRing (with_flush r ok) j.from j.super.ring (j.super.generation + 1) j.blocks j.written j.settled
+  ring-flushed : (ok : Bool) (image : List (List ℕ)) → BeginsAs (with_flush r ok) j.from image → KeepsRing (with_flush r ok) j.from j.super.ring (j.super.generation + 1) j.blocks j.written j.settled
   ring-flushed ok image began =
       let before : BeginsAs r j.from image = began-flushed ok image began in
       ring-flush r j.from j.super.ring (j.super.generation + 1) j.blocks j.written j.settled (d.journal.ring image before) before.settled (ring-fits image before) ok
 
-  ring-settled : (image : List (List ℕ)) → BeginsAs (with_flush r true) j.from image → HasRing (with_flush r true) j.from j.super.ring (j.super.generation + 1) j.blocks j.written j.written
+  ring-settled : (image : List (List ℕ)) → BeginsAs (with_flush r true) j.from image → KeepsRing (with_flush r true) j.from j.super.ring (j.super.generation + 1) j.blocks j.written j.written
   ring-settled image began =
       let before : BeginsAs r j.from image = began-flushed true image began in
       ring-settles r j.from j.super.ring (j.super.generation + 1) j.blocks j.written j.settled (d.journal.ring image before) before.settled (ring-fits image before)

@@ -11,7 +11,7 @@ use Rattle.fx_image.specs.Chance.{NotByChance}
 use Rattle.fx_image.specs.Chosen.{Chooses, next_generation}
 use Rattle.fx_image.specs.Raising.{BeginsAt, ChoosesNext}
 use Rattle.fx_image.specs.Standing.{Transactions, IsImage, HasAmpleRoom, pieces_of}
-use Rattle.fx_image.specs.Ring.{BeginsAs, BeginsWith, HasRing, HasStream}
+use Rattle.fx_image.specs.Ring.{BeginsAs, BeginsWith, KeepsRing, KeepsStream}
 use Rattle.fx_image.specs.Prefix.{IsWhole, Began, KeepsAll}
 use Rattle.fx_image.specs.Journal.{Journal, IsJournal, IsWrittenOut}
 use Rattle.fx_image.proofs.Images.{one_super, stream_chosen}
@@ -53,10 +53,10 @@ began-read size from base tree r image f g txns old read place P began with are 
 
 module _ (j : Journal) (calls : ℕ) (h : IsJournal j calls) (r : DiskRecord)
     (begins : (image : List (List ℕ)) → BeginsAs r j.from image → BeginsWith r j.from j.super image j.read j.place)
-    (ring : (image : List (List ℕ)) → BeginsAs r j.from image → HasRing r j.from j.super.ring (j.super.generation + 1) j.blocks j.written j.settled)
+    (ring : (image : List (List ℕ)) → BeginsAs r j.from image → KeepsRing r j.from j.super.ring (j.super.generation + 1) j.blocks j.written j.settled)
     (next : ChoosesNext j.from r) where
   stream-now : (first left : List (List ℕ)) → BeginsAs r j.from first → LeftNow r left → NotByChance (cell_after r j.from) (cell_now r) j.super.generation left
-      → Chooses (next_generation j.super) left × HasStream left j.super j.read j.blocks j.settled
+      → Chooses (next_generation j.super) left × KeepsStream left j.super j.read j.blocks j.settled
   stream-now first left began is chance =
       let with : BeginsWith r j.from j.super first j.read j.place = begins first began in
       let chosen : Chooses (next_generation j.super) left = next j.super (begins-at r j.from j.super first j.read j.place with) left is in

@@ -24,7 +24,7 @@ use Rattle.fx_history.specs.declared.entry.Entry.{Entry}
 use Rattle.fx_history.specs.History.{tree_at}
 use Rattle.fx_super.specs.Super.{Fields}
 use Rattle.fx_image.specs.Standing.{Transactions, StandsFor, IsImage, HasRoom, HasAmpleRoom, kept, items_after, lists_of, pieces_of}
-use Rattle.fx_image.specs.Ring.{HasStream, as_stream}
+use Rattle.fx_image.specs.Ring.{KeepsStream, as_stream}
 use Rattle.fx_image.specs.Chosen.{Chooses, next_generation, start_of}
 use Rattle.fx_image.specs.Prefix.{IsPrefix, IsWhole}
 use Rattle.fx_image.specs.Journal.{Journal, IsJournal}
@@ -109,7 +109,7 @@ room-left f txns now more k records lists few short ids stores h =
     }
 
 -- An image with the superblock of the next generation, and the first of the closed blocks.
-module _ (j : Journal) (calls : ℕ) (h : IsJournal j calls) (image : List (List ℕ)) (chosen : Chooses (next_generation j.super) image) (s : HasStream image j.super j.read j.blocks j.settled) where
+module _ (j : Journal) (calls : ℕ) (h : IsJournal j calls) (image : List (List ℕ)) (chosen : Chooses (next_generation j.super) image) (s : KeepsStream image j.super j.read j.blocks j.settled) where
   abbrev last : ℕ
   last = kept j.super j.txns
 

@@ -15,7 +15,7 @@ use Rattle.fx_journal.specs.Ring.{Queued}
 use Rattle.fx_journal.proofs.Runs.{run_joined, run_more, run_next, same_run, same_stream, ended_run}
 use Rattle.fx_image.specs.Chosen.{Chooses, next_generation, start_of}
 use Rattle.fx_image.specs.Chance.{IsTrueBlock, NotByChance}
-use Rattle.fx_image.specs.Ring.{BeginsWith, AreClosed, IsTried, IsElsewhere, HasRing, HasStream, place_in, bytes_in, in_stream, as_stream}
+use Rattle.fx_image.specs.Ring.{BeginsWith, AreClosed, IsTried, IsElsewhere, KeepsRing, KeepsStream, place_in, bytes_in, in_stream, as_stream}
 use Rattle.fx_image.proofs.Choosing.{two-is}
 use Rattle.fx_image.proofs.Closing.{rules-begun, place-begun}
 use Rattle.fx_image.proofs.Leading.{Leads, leads, run-raised, stands-lower}
@@ -46,10 +46,10 @@ module _ (r : DiskRecord) (from : ℕ) (f : Fields) (first : List (List ℕ)) (r
   stream-still same = same_stream first image f.ring f.generation (start_of f) place read (omega (arith, rules.ring_least))
       (λ b two lt. (let within : b < length r.entry = omega (arith, rules.blocks_least, began.blocks) in still-bytes b within (same b two lt))) began.stream
 
-  pub stream-unclosed : (epoch written settled : ℕ) → HasRing r from f.ring epoch [] written settled → IsStream image f.ring f.generation (start_of f) read place
+  pub stream-unclosed : (epoch written settled : ℕ) → KeepsRing r from f.ring epoch [] written settled → IsStream image f.ring f.generation (start_of f) read place
   stream-unclosed epoch written settled h = stream-still (λ b two lt. h.others b two lt (λ i q e. absurd (cc)))
 
-  module _ (blocks : List Queued) (chain : ℕ) (closed : AreClosed f read place blocks chain) (written settled : ℕ) (h : HasRing r from f.ring (f.generation + 1) blocks written settled) where
+  module _ (blocks : List Queued) (chain : ℕ) (closed : AreClosed f read place blocks chain) (written settled : ℕ) (h : KeepsRing r from f.ring (f.generation + 1) blocks written settled) where
     abbrev epoch : ℕ
     epoch = f.generation + 1
 
@@ -172,7 +172,7 @@ module _ (r : DiskRecord) (from : ℕ) (f : Fields) (first : List (List ℕ)) (r
           (cases_lt lead.count settled)
 
       -- The stream is what was read and then the first of the closed blocks, at least those that were settled.
-      pub stream-left : HasStream image f read blocks settled
+      pub stream-left : KeepsStream image f read blocks settled
       stream-left = record {
         count = lead.count;
         least = least;
@@ -183,7 +183,7 @@ module _ (r : DiskRecord) (from : ℕ) (f : Fields) (first : List (List ℕ)) (r
       }
 
 -- Where all closed blocks were settled, the stream is all that was read and closed.
-pub stream-all : (image : List (List ℕ)) (f : Fields) (read : List StreamBlock) (blocks : List Queued) → HasStream image f read blocks (length blocks)
+pub stream-all : (image : List (List ℕ)) (f : Fields) (read : List StreamBlock) (blocks : List Queued) → KeepsStream image f read blocks (length blocks)
     → (next : Start) × IsStream image f.ring (f.generation + 1) (start_of f) (read ++ as_stream (f.generation + 1) blocks) next
 stream-all image f read blocks h =
     let all : h.count ≡ length blocks = omega (arith, h.least, h.most) in

@@ -67,7 +67,7 @@ IsElsewhere ring blocks b = (i : ℕ) (q : Queued) → slice_get blocks i ≡ So
 -- Since the first calls no disk block of the ring was written but those of the closed blocks, each of these
 -- with its own bytes alone. The first `written` of them were written by good writes, and the first
 -- `settled` were flushed since.
-pub record HasRing (r : DiskRecord) (from ring epoch : ℕ) (blocks : List Queued) (written settled : ℕ) : Type 0 where
+pub record KeepsRing (r : DiskRecord) (from ring epoch : ℕ) (blocks : List Queued) (written settled : ℕ) : Type 0 where
   pub since : from ≤ length r.calls
   pub fewer : settled ≤ written
   pub most : written ≤ length blocks
@@ -77,7 +77,7 @@ pub record HasRing (r : DiskRecord) (from ring epoch : ℕ) (blocks : List Queue
   pub fixed : (i : ℕ) (q : Queued) → slice_get blocks i ≡ Some q → i < settled → (cell_now r (place_in ring q)).loose ≡ false
 
 -- The stream of the image is what was read and then the first of the closed blocks, at least the settled ones.
-pub record HasStream (image : List (List ℕ)) (f : Fields) (read : List StreamBlock) (blocks : List Queued) (settled : ℕ) : Type 0 where
+pub record KeepsStream (image : List (List ℕ)) (f : Fields) (read : List StreamBlock) (blocks : List Queued) (settled : ℕ) : Type 0 where
   pub count : ℕ
   pub least : settled ≤ count
   pub most : count ≤ length blocks

@@ -20,7 +20,8 @@ use Rattle.fx_plain.specs.declared.kind.Kind.{Kind}
 use Rattle.fx_plain.specs.declared.kind.Kind.TheVariants.{Dir, File}
 use Rattle.fx_namespace.specs.Nodes.{NodeId, root_node, is_root, led_to, child, node_at, told_kind, object_kind, kind_of, Stands}
 use Rattle.fx_namespace.specs.Trees.{Holdings, IsTreeOf, node_of, shown}
-use Rattle.fx_namespace.specs.Changes.{Gains, IsFresh, IsPlaceFor, MayBeChild, Resizes}
+use Rattle.fx_namespace.specs.Changes.{Gains, IsFresh, IsPlaceFor, Resizes}
+use Rattle.fx_namespace.specs.Wrong.{MayLead}
 use Rattle.fx_namespace.specs.Commits.{IsBelow, IsFileAt, IsFreePlace, IsNextNode, LeadsAlso, id_then, new_items, new_value, store_then, written_items}
 use Rattle.fx_namespace.proofs.Walks.{EndsWith, ends_with, child_value, last_step, more_step, one_path, root_is, root_not, root_not_led, same_node}
 use Rattle.fx_namespace.proofs.Trees.{shown_inner}
@@ -260,15 +261,19 @@ fresh m parent node kind id store b (inr a) =
       led = λ y x f. let v = b.value (ChildKey y.store y.id x) (ChildValue node.store node.id) (child_value m y x node f) in absurd (omega arith);
     }
 
-may_be_child : (m : ItemMap) (parent node : NodeId) (kind : Kind) (id store : ℕ) → IsBelow m id store → IsNextNode parent node kind id store → MayBeChild parent node kind
-may_be_child m parent node kind id store b (inl a) =
+may_lead : (m : ItemMap) (parent node : NodeId) (kind : Kind) (id store : ℕ) → IsBelow m id store → IsNextNode parent node kind id store → MayLead parent node
+may_lead m parent node kind id store b (inl a) =
     let r = b.root_store in
     let e : node.store ≡ store = ap (λ z. z.store) a.2 in
-    inl (a.0, a.1, ap (λ z. z.id) a.2, omega arith)
-may_be_child m parent node kind id store b (inr a) =
+    inl (a.0, ap (λ z. z.id) a.2, omega arith)
+may_lead m parent node kind id store b (inr a) =
     let r = b.root_id in
     let e : node.id ≡ id = ap (λ z. z.id) a.1 in
     inr (a.0, ap (λ z. z.store) a.1, omega arith)
+
+next_volume : (parent node : NodeId) (kind : Kind) (id store : ℕ) → IsNextNode parent node kind id store → parent ≡ root_node → kind ≡ Dir
+next_volume parent node kind id store (inl a) top = a.1
+next_volume parent node kind id store (inr a) top = absurd (a.0 top)
 
 module _ {m : ItemMap} {h : Holdings} {t : Tree} {above : List (List ℕ)} {parent : NodeId} {name : List ℕ} {node : NodeId} {kind : Kind} {id store : ℕ}
     (s : Stands m) (is : IsTreeOf m h t) (b : IsBelow m id store) (place : IsFreePlace m t above parent name) (next : IsNextNode parent node kind id store) where
@@ -281,7 +286,8 @@ module _ {m : ItemMap} {h : Holdings} {t : Tree} {above : List (List ℕ)} {pare
     dir = dir_kind m h t is above parent place.attributes place.directory place.way;
     free = free_entry m h t is s above name parent place.way place.free;
     fresh = fresh m parent node kind id store b next;
-    store = may_be_child m parent node kind id store b next;
+    lead = may_lead m parent node kind id store b next;
+    volume = next_volume parent node kind id store next;
     depth = place.depth;
   }
 

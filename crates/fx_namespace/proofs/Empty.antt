@@ -7,7 +7,7 @@ use Rattle.fx_plain.specs.Tree.{path_cmp, root}
 use Rattle.fx_item.specs.Look.{ItemMap}
 use Rattle.fx_namespace.specs.Nodes.{NodeId, node_at, Stands}
 use Rattle.fx_namespace.specs.Trees.{Holdings, IsTreeOf, shown}
-use Rattle.fx_namespace.proofs.Trees.{Left, left}
+use Rattle.fx_plain.proofs.Trees.{Left, left}
 
 abbrev none : ItemMap
 none = λ key. None

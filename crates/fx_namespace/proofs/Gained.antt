@@ -14,7 +14,8 @@ use Rattle.fx_namespace.specs.Trees.{Holdings, IsTreeOf, node_of, shown}
 use Rattle.fx_namespace.specs.Changes.{Gains, IsPlaceFor}
 use Rattle.fx_namespace.specs.Commits.{LeadsAlso}
 use Rattle.fx_namespace.proofs.Walks.{EndsWith, ends_with, child_value, object_value, kind_of_inner, last_step, more_step, one_path, same_node, same_name, node_path}
-use Rattle.fx_namespace.proofs.Trees.{Left, left, shown_inner}
+use Rattle.fx_plain.proofs.Trees.{Left, left}
+use Rattle.fx_namespace.proofs.Trees.{shown_inner}
 
 module _ {m n : ItemMap} {above : List (List ℕ)} {parent : NodeId} {name : List ℕ} {node : NodeId} {kind : Kind} {value : PlainValue}
     (s : Stands m) (p : IsPlaceFor m above parent name node kind) (g : Gains m n parent name node value) where
@@ -69,8 +70,8 @@ module _ {m n : ItemMap} {above : List (List ℕ)} {parent : NodeId} {name : Lis
 
   -- the new node is not the root, and no path led to it
   not_root : node ≢ root_node
-  not_root e = elim p.store [
-    | inl a ↦ let low : 1 ≤ node.store = a.3 in let zero : node.store ≡ 0 = ap (λ z. z.store) e in omega arith
+  not_root e = elim p.lead [
+    | inl a ↦ let low : 1 ≤ node.store = a.2 in let zero : node.store ≡ 0 = ap (λ z. z.store) e in omega arith
     | inr a ↦ let low : 1 ≤ node.id = a.2 in let zero : node.id ≡ 0 = ap (λ z. z.id) e in omega arith
   ]
 
@@ -146,14 +147,14 @@ module _ {m n : ItemMap} {above : List (List ℕ)} {parent : NodeId} {name : Lis
     }
       where
         volume : (x : List ℕ) (v : PlainValue) → IsEntry root_node x v → (store : ℕ) × (v ≡ ChildValue store 0) × (1 ≤ store)
-        volume x v (inl a) = elim p.store [
-          | inl b ↦ (node.store, a.2 ∙ ap (ChildValue node.store) b.2, b.3)
+        volume x v (inl a) = elim p.lead [
+          | inl b ↦ (node.store, a.2 ∙ ap (ChildValue node.store) b.1, b.2)
           | inr b ↦ absurd (b.0 (sym a.0))
         ]
         volume x v (inr a) = s.volumes x v a
 
         within : (y : NodeId) (x : List ℕ) (v : PlainValue) → y ≢ root_node → IsEntry y x v → (id : ℕ) × (v ≡ ChildValue y.store id) × (1 ≤ id)
-        within y x v ne (inl a) = elim p.store [
+        within y x v ne (inl a) = elim p.lead [
           | inl b ↦ absurd (ne (a.0 ∙ b.0))
           | inr b ↦ (node.id, a.2 ∙ ap (λ i. ChildValue i node.id) (b.1 ∙ ap (λ z. z.store) (sym a.0)), b.2)
         ]
@@ -164,10 +165,7 @@ module _ {m n : ItemMap} {above : List (List ℕ)} {parent : NodeId} {name : Lis
         has_object y x z (inr a) = let o = s.objects y x z a in (o.0, kept_kind z o.0 o.1)
 
         top : (x : List ℕ) (z : NodeId) → IsStep root_node x z → object_kind n z ≡ Some Dir
-        top x z (inl a) = elim p.store [
-          | inl b ↦ ap (object_kind n) a.2 ∙ new_kind ∙ ap Some b.1
-          | inr b ↦ absurd (b.0 (sym a.0))
-        ]
+        top x z (inl a) = ap (object_kind n) a.2 ∙ new_kind ∙ ap Some (p.volume (sym a.0))
         top x z (inr a) = kept_kind z Dir (s.tops x z a)
 
         above_dir : (y : NodeId) (x : List ℕ) (v : PlainValue) → y ≢ root_node → IsEntry y x v → object_kind n y ≡ Some Dir

@@ -14,7 +14,8 @@ use Rattle.fx_namespace.specs.Nodes.{NodeId, root_node, is_root, led_to, child, 
 use Rattle.fx_namespace.specs.Trees.{Holdings, IsTreeOf, node_of, shown}
 use Rattle.fx_namespace.specs.Changes.{Resizes, SameBut}
 use Rattle.fx_namespace.proofs.Walks.{one_path, root_not_led, last_step, same_node, node_path}
-use Rattle.fx_namespace.proofs.Trees.{Left, left, shown_inner}
+use Rattle.fx_plain.proofs.Trees.{Left, left}
+use Rattle.fx_namespace.proofs.Trees.{shown_inner}
 
 module _ {m n : ItemMap} {node : NodeId} {old new : ℕ} (r : Resizes m n node old new) where
   same_entry : (y : NodeId) (x : List ℕ) → n (ChildKey y.store y.id x) ≡ m (ChildKey y.store y.id x)

@@ -1,10 +1,6 @@
--- The tree of items: it is one, and a tree; and what an insertion into it leaves.
+-- The tree of items: it is one, and a tree.
 use Rattle.std.proofs.Common.{◌≡◌, ◌≢◌, ◌⊎◌, inl, inr, ℕ, ◌++◌, List, [], ◌∷◌, refl, sym, ap, ◌∙◌, cond}
 use Rattle.std.specs.Prelude.{Some, option_and_then, option_map}
-use Rattle.std.specs.Cmp.{tied_itself}
-use Rattle.std.specs.declared.cmp.Ordering.{Ordering}
-use Rattle.std.specs.declared.cmp.Ordering.TheVariants.{Less, Equal, Greater}
-use Rattle.std.specs.Ordering.{is_eq}
 use Rattle.std.specs.FinMap.{get, insert, empty, get-insert, same_map}
 use Rattle.std.proofs.lemmas.Option.{option_and_then_some}
 use Rattle.fx_plain.specs.Node.{Node, Dir, empty_dir}
@@ -14,24 +10,6 @@ use Rattle.fx_item.specs.Look.{ItemMap}
 use Rattle.fx_namespace.specs.Nodes.{NodeId, root_node, child, node_at, object_kind, Stands}
 use Rattle.fx_namespace.specs.Trees.{Holdings, IsTreeOf, node_of, shown}
 use Rattle.fx_namespace.proofs.Walks.{child_value, last_step, same_node, root_is, root_not}
-
--- what an insertion leaves at a path q: the new node where q is the path, and else what lay there
-abbrev pub Left : Tree → List (List ℕ) → Node → List (List ℕ) → Type 0
-Left tree p node q = ((q ≡ p) × (get (insert tree p node) q ≡ Some node)) ⊎ ((q ≢ p) × (get (insert tree p node) q ≡ get tree q))
-
-less_equal : let a : Ordering = Less in a ≡ Equal → ⊥
-less_equal e = cc
-
-greater_equal : let a : Ordering = Greater in a ≡ Equal → ⊥
-greater_equal e = cc
-
-pub left : (tree : Tree) (p : List (List ℕ)) (node : Node) (q : List (List ℕ)) → Left tree p node q
-left tree p node q = by_order (path_cmp q p) refl
-  where
-    by_order : (o : Ordering) → path_cmp q p ≡ o → Left tree p node q
-    by_order Equal e = inl (paths_exact q p e, get-insert paths_total tree p node q ∙ ap (λ o. cond (is_eq o) (Some node) (get tree q)) e)
-    by_order Less e = inr (λ s. less_equal (sym e ∙ ap (λ x. path_cmp x p) s ∙ tied_itself paths_total p), get-insert paths_total tree p node q ∙ ap (λ o. cond (is_eq o) (Some node) (get tree q)) e)
-    by_order Greater e = inr (λ s. greater_equal (sym e ∙ ap (λ x. path_cmp x p) s ∙ tied_itself paths_total p), get-insert paths_total tree p node q ∙ ap (λ o. cond (is_eq o) (Some node) (get tree q)) e)
 
 pub one_tree : (m : ItemMap) (h : Holdings) (t u : Tree) → IsTreeOf m h t → IsTreeOf m h u → t ≡ u
 one_tree m h t u a b = same_map paths_total paths_exact t u (λ q. a.at q ∙ sym (b.at q))

@@ -1,5 +1,5 @@
 -- Changes of items, and what they need.
-use Rattle.std.specs.Prelude.{◌≡◌, ◌≢◌, ◌⊎◌, ℕ, ◌≤◌, ◌<◌, List, length, Some, None}
+use Rattle.std.specs.Prelude.{◌≡◌, ◌≢◌, ℕ, ◌<◌, List, length, Some, None}
 use Rattle.fx_item.specs.Item.{PlainKey, ObjectKey, ChildKey, PlainValue, FileValue, ChildValue}
 use Rattle.fx_plain.specs.declared.kind.Kind.{Kind}
 use Rattle.fx_plain.specs.declared.kind.Kind.TheVariants.{Dir}
@@ -7,17 +7,12 @@ use Rattle.fx_plain.specs.declared.path.TheConstants.{MAX_NAMES}
 use Rattle.fx_item.specs.Look.{ItemMap}
 use Rattle.fx_namespace.specs.Nodes.{NodeId, root_node, child, node_at, kind_of}
 use Rattle.fx_namespace.specs.Trees.{Holdings}
+use Rattle.fx_namespace.specs.Wrong.{MayLead}
 
 -- A node that no Object and no child speaks of.
 pub record IsFresh (m : ItemMap) (node : NodeId) : Type 0 where
   pub object : m (ObjectKey node.store node.id) ≡ None
   pub led : (parent : NodeId) (name : List ℕ) → child m parent name ≢ Some node
-
--- A node may be a child: of the root where it is a directory and node 0 of a store, and else of a node
--- of its own store.
-abbrev pub MayBeChild : NodeId → NodeId → Kind → Type 0
-MayBeChild parent node kind = ((parent ≡ root_node) × (kind ≡ Dir) × (node.id ≡ 0) × (1 ≤ node.store))
-    ⊎ ((parent ≢ root_node) × (node.store ≡ parent.store) × (1 ≤ node.id))
 
 -- The items gain one node: its Object, and its child entry in a directory where that name is free.
 pub record Gains (m n : ItemMap) (parent : NodeId) (name : List ℕ) (node : NodeId) (value : PlainValue) : Type 0 where
@@ -30,14 +25,15 @@ pub record SameBut (node : NodeId) (g h : Holdings) : Type 0 where
   pub contents : (other : NodeId) → other ≢ node → h.contents other ≡ g.contents other
   pub attributes : (other : NodeId) → h.attributes other ≡ g.attributes other
 
--- The place for a new node: a directory that a path leads to, with the name free, and a fresh node of
--- that kind which may be its child, not too deep.
+-- The place for a new node: a directory that a path leads to, with the name free, and a fresh node which
+-- may be its child, of that kind, a directory in the root, not too deep.
 pub record IsPlaceFor (m : ItemMap) (above : List (List ℕ)) (parent : NodeId) (name : List ℕ) (node : NodeId) (kind : Kind) : Type 0 where
   pub way : node_at m above ≡ Some parent
   pub dir : kind_of m parent ≡ Some Dir
   pub free : m (ChildKey parent.store parent.id name) ≡ None
   pub fresh : IsFresh m node
-  pub store : MayBeChild parent node kind
+  pub lead : MayLead parent node
+  pub volume : parent ≡ root_node → kind ≡ Dir
   pub depth : length above < MAX_NAMES
 
 -- The Object of a file tells a length in place of another, and all else stays.
