@@ -3,7 +3,7 @@ use super::*;
 use fx_item::{Bytes, Name};
 use fx_journal::Full;
 use fx_plain::{Answer, Kind, Names, Refusal};
-use fx_script::{Line, Task};
+use fx_script::read_script;
 use std::alloc::{AllocError, Global};
 use std::test::Fail;
 
@@ -66,18 +66,21 @@ fn ends(alloc: Global) -> Result<Vec<EndKind>, AllocError> {
 
 #[test]
 fn each_end_is_printed(rt: HostRuntime) -> Result<(), Fail> {
-    let mut count = 0u64;
-    for (kind, row) in ends(rt.alloc())?.into_iter().zip(ROWS.lines()) {
-        let task = Task {
-            client: 3,
-            number: 11,
-            line: Line::Sync,
-        };
-        let text = result_text(rt.alloc(), &[task], &[Outcome::new(7, kind)])?;
-        let wanted = format!(in rt.alloc(); "3 11 {row}\n")?;
-        assert_eq!(rt; text.as_str(), wanted.as_str());
-        count = count.saturating_add(1);
+    let alloc = rt.alloc();
+    let mut script = Vec::new(alloc);
+    let mut outcomes = Vec::new(alloc);
+    let mut wanted = String::new(alloc);
+    for (kind, row) in ends(alloc)?.into_iter().zip(ROWS.lines()) {
+        script.extend_from_slice(b"3 sync\n".as_slice())?;
+        outcomes.push(Outcome::new(7, kind))?;
+        let number = outcomes.len();
+        write!(wanted, "3 {number} {row}\n")?;
     }
-    assert_eq!(rt; count, 13);
+    let Ok(tasks) = read_script(Bytes::new(script), true) else {
+        return Err(Fail::from("not a script"));
+    };
+    assert_eq!(rt; (outcomes.len(), tasks.len() as usize), (13, 13));
+    let text = result_text(alloc, &tasks, outcomes.as_slice())?;
+    assert_eq!(rt; text.as_str(), wanted.as_str());
     Ok(())
 }

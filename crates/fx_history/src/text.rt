@@ -6,7 +6,7 @@ ghost use Rattle.fx_history.specs.Text.{refusal_word, read_text, spaced_names, l
 use crate::outcome::{EndKind, Outcome};
 use fx_item::Name;
 use fx_plain::{Answer, Kind, Refusal};
-use fx_script::{Task, push_escaped};
+use fx_script::{SentLine, Tasks, push_escaped};
 use std::alloc::{AllocError, Global};
 
 /// The word of a refusal.
@@ -104,28 +104,27 @@ fn push_end(text: &mut String, outcome: &Outcome) -> Result<(), AllocError>
 }
 
 /// A result line, behind the text.
-fn push_line(text: &mut String, task: &Task, outcome: &Outcome) -> Result<(), AllocError>
-    ensures { OnOk result (string_bytes text.new ≡ string_bytes text.old ++ result_line task.now outcome.now) }
+fn push_line(text: &mut String, line: &SentLine<'_>, outcome: &Outcome) -> Result<(), AllocError>
+    ensures { OnOk result (string_bytes text.new ≡ string_bytes text.old ++ result_line line.now outcome.now) }
 {
-    let client = task.client;
-    let number = task.number;
+    let client = line.client();
+    let number = line.number();
     write!(text, "{client} {number} ")?;
     push_end(text, outcome)?;
     text.push_str("\n")
 }
 
-/// The result lines, one for each line of a script, each with its line feed. Costs their length.
-pub fn result_text(
-    alloc: Global,
-    tasks: &[Task],
-    outcomes: &[Outcome],
-) -> Result<String, AllocError>
+/// The result lines, one for each line of a script, each with its line feed. Costs their length, and the bytes of the
+/// script.
+pub fn result_text(alloc: Global, tasks: &Tasks, outcomes: &[Outcome]) -> Result<String, AllocError>
     requires { length outcomes.now ≡ length tasks.now }
     ensures { IfOk result (λ text. string_bytes text ≡ result_text tasks.now outcomes.now) }
 {
     let mut text = String::new(alloc);
-    for i in 0..tasks.len() {
-        push_line(&mut text, &tasks[i], &outcomes[i])?;
+    let mut i = 0;
+    for line in tasks.lines() {
+        push_line(&mut text, &line, &outcomes[i])?;
+        i += 1;
     }
     Ok(text)
 }

@@ -28,6 +28,9 @@ not-both r a e good bad = let both : Ok a ≡ Err e = sym good ∙ bad in cc
 pub no-more : (count counted : ℕ) (made ok : Bool) (does keeps : Type 0) → MadeOrNot count counted made ok does keeps → counted ≤ count + 1
 no-more count counted made ok does keeps w = ⊎_elim (λ y. omega (arith, y.counted)) (λ no. omega (arith, no.counted)) w
 
+pub no-fewer : (count counted : ℕ) (made ok : Bool) (does keeps : Type 0) → MadeOrNot count counted made ok does keeps → count ≤ counted
+no-fewer count counted made ok does keeps w = ⊎_elim (λ y. omega (arith, y.counted)) (λ no. omega (arith, no.counted)) w
+
 -- the last call of a record with one call more
 last-call : (calls : List Call) (call : Call) (last : ℕ) → length (calls ++ call ∷ []) ≡ last + 1 → call_at (calls ++ call ∷ []) last ≡ call
 last-call calls call last e =

@@ -59,6 +59,7 @@ pub record Done (step : Step) (commit : Commit) (s t : Session) (ring new : Ring
   pub epoch : new.epoch ≡ ring.epoch
   pub buffers : HasBuffers new region
   pub place : live ring + 2 ≤ ring.size
+  pub live_stays : live ring ≤ live new
   pub live_rises : live new ≤ live ring + 1
 
 abbrev pub Puts : Step → Commit → (s t : Session) → (ring new : RingState) → (pool region : Region) → PutEnd → Type 0

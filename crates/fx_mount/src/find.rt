@@ -110,6 +110,7 @@ fn read_slot<D: Disk>(disk: &mut D, at: u32) -> Result<Result<Super, SuperFault>
     ensures calls { D.calls disk.new ≡ D.calls disk.old }
     ensures size { D.size disk.new ≡ D.size disk.old }
     ensures faults { D.faults disk.old ≤ D.faults disk.new }
+    ensures unfailed { OnOk result (D.faults disk.new ≡ D.faults disk.old) }
     ensures failed { OnErr result (Rose (D.faults disk.old) (D.faults disk.new)) }
 {
     let mut block = zero_block();
@@ -129,6 +130,7 @@ pub(crate) fn find<D: Disk>(disk: &mut D) -> Result<Found, MountFault>
     ensures calls { D.calls disk.new ≡ D.calls disk.old }
     ensures size { D.size disk.new ≡ D.size disk.old }
     ensures faults { D.faults disk.old ≤ D.faults disk.new }
+    ensures unfailed { OnOk result (D.faults disk.new ≡ D.faults disk.old) }
 {
     let blocks = disk.blocks();
     if blocks < 2 {

@@ -4,6 +4,7 @@ ghost use Rattle.fx_base.specs.Causes.{Rose};
 ghost use Rattle.fx_image.specs.Longer.{BothTell, Extends};
 ghost use Rattle.fx_mount.specs.Formatted.{HasRoomFor, IsFormatted, IsLaidOut, IsMkfsCause, zero_bytes};
 ghost use Rattle.fx_mount.specs.Laying.{IsLaid, KeepsFirst};
+ghost use Rattle.fx_mount.specs.Calls.{HasFailedLast};
 
 use crate::fault::MkfsFault;
 use fx_disk::{Disk, DiskFailed};
@@ -29,8 +30,14 @@ pub fn mkfs<D: Disk>(disk: &mut D, ring: u32) -> Result<(), MkfsFault>
     ensures formats { OnOk result (BothTell (IsFormatted (D.size disk.old) ring) (D.told disk.old) (D.told disk.new)) }
     ensures room { OnOk result (HasRoomFor ring (D.size disk.old)) }
     ensures calls { OnOk result (D.calls disk.new ≡ D.calls disk.old + ring + 4) }
+    ensures grows { D.calls disk.old ≤ D.calls disk.new }
+    ensures few { D.calls disk.new ≤ D.calls disk.old + ring + 4 }
     ensures cause { IfErr result (IsMkfsCause ring (D.size disk.old) (D.faults disk.old) (D.faults disk.new)) }
     ensures untouched { IfErr result (λ fault. (blocks : ℕ) → fault ≡ MkfsFault.Size blocks → disk.new ≡ disk.old) }
+
+    // A fault of the disk is that of the call that was last asked for.
+    ensures last { IfErr result (λ fault. fault ≡ MkfsFault.Device → HasFailedLast (D.last_made disk.new) (D.told disk.new)) }
+
     ensures extends { Extends (D.told disk.old) (D.told disk.new) }
     ensures size { D.size disk.new ≡ D.size disk.old }
     ensures faults { D.faults disk.old ≤ D.faults disk.new }
@@ -53,6 +60,9 @@ fn clear<D: Disk>(disk: &mut D, ring: u32) -> Result<(), DiskFailed>
     requires room { ring + 2 ≤ D.size disk.old }
     ensures laid { OnOk result (BothTell (KeepsFirst (ring + 2)) (D.told disk.old) (D.told disk.new)) }
     ensures calls { OnOk result (D.calls disk.new ≡ D.calls disk.old + ring + 1) }
+    ensures grows { D.calls disk.old ≤ D.calls disk.new }
+    ensures few { D.calls disk.new ≤ D.calls disk.old + ring + 1 }
+    ensures last { OnErr result (HasFailedLast (D.last_made disk.new) (D.told disk.new)) }
     ensures failed { OnErr result (Rose (D.faults disk.old) (D.faults disk.new)) }
     ensures extends { Extends (D.told disk.old) (D.told disk.new) }
     ensures size { D.size disk.new ≡ D.size disk.old }
@@ -71,6 +81,9 @@ fn lay_out<D: Disk>(disk: &mut D, ring: u32, first: &[u8; 4096]) -> Result<(), D
     requires room { ring + 2 ≤ D.size disk.old }
     ensures laid { OnOk result (BothTell (IsLaidOut ring first.now) (D.told disk.old) (D.told disk.new)) }
     ensures calls { OnOk result (D.calls disk.new ≡ D.calls disk.old + ring + 4) }
+    ensures grows { D.calls disk.old ≤ D.calls disk.new }
+    ensures few { D.calls disk.new ≤ D.calls disk.old + ring + 4 }
+    ensures last { OnErr result (HasFailedLast (D.last_made disk.new) (D.told disk.new)) }
     ensures failed { OnErr result (Rose (D.faults disk.old) (D.faults disk.new)) }
     ensures extends { Extends (D.told disk.old) (D.told disk.new) }
     ensures size { D.size disk.new ≡ D.size disk.old }

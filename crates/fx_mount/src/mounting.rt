@@ -56,12 +56,14 @@ fn put_super<D: Disk>(disk: &mut D, chosen: Which, block: &[u8; 4096]) -> Result
         IfSome (D.told disk.old) (λ r. IsChosen r.contents chosen f) → IfSome (D.told disk.old) (IsOn f read) →
         IfSome (D.told disk.new) (HasJournal (journal_of (D.size disk.old) (D.calls disk.old) f read)) }
     ensures calls { OnOk result (D.calls disk.new ≡ D.calls disk.old + 2) }
+    ensures grows { D.calls disk.old ≤ D.calls disk.new }
     ensures most { D.calls disk.new ≤ D.calls disk.old + 2 }
     ensures last { OnErr result (HasFailedLast (D.last_made disk.new) (D.told disk.new)) }
     ensures failed { OnErr result (Rose (D.faults disk.old) (D.faults disk.new)) }
     ensures extends { Extends (D.told disk.old) (D.told disk.new) }
     ensures size { D.size disk.new ≡ D.size disk.old }
     ensures faults { D.faults disk.old ≤ D.faults disk.new }
+    ensures unfailed { OnOk result (D.faults disk.new ≡ D.faults disk.old) }
 {
     disk.write(chosen.other().block() as u32, block)?;
     disk.flush()
@@ -78,12 +80,14 @@ fn raise<D: Disk>(disk: &mut D, found: &Found) -> Result<(), DiskFailed>
     ensures journal { (read : Read) → FitsTogether (D.size disk.old) (fields_of found.now.sup) read → IfSome (D.told disk.old) (IsOn (fields_of found.now.sup) read) →
         IfSome (D.told disk.new) (HasJournal (journal_of (D.size disk.old) (D.calls disk.old) (fields_of found.now.sup) read)) }
     ensures calls { OnOk result (D.calls disk.new ≡ D.calls disk.old + 2) }
+    ensures grows { D.calls disk.old ≤ D.calls disk.new }
     ensures most { D.calls disk.new ≤ D.calls disk.old + 2 }
     ensures last { OnErr result (HasFailedLast (D.last_made disk.new) (D.told disk.new)) }
     ensures failed { OnErr result (Rose (D.faults disk.old) (D.faults disk.new)) }
     ensures extends { Extends (D.told disk.old) (D.told disk.new) }
     ensures size { D.size disk.new ≡ D.size disk.old }
     ensures faults { D.faults disk.old ≤ D.faults disk.new }
+    ensures unfailed { OnOk result (D.faults disk.new ≡ D.faults disk.old) }
 {
     let next = Super {
         generation: found.sup.generation + 1,
@@ -130,6 +134,7 @@ fn prepare<D: Disk>(alloc: Global, disk: &mut D) -> Result<Prepared, MountFault>
     ensures calls { D.calls disk.new ≡ D.calls disk.old }
     ensures size { D.size disk.new ≡ D.size disk.old }
     ensures faults { D.faults disk.old ≤ D.faults disk.new }
+    ensures unfailed { OnOk result (D.faults disk.new ≡ D.faults disk.old) }
 {
     let found = match find(disk) {
         Ok(found) => found,
@@ -192,6 +197,7 @@ fn begin<D: Disk>(alloc: Global, disk: &mut D) -> Result<Prepared, MountFault>
     ensures cause { IfErr result (IsMountCause (D.size disk.old) (D.told disk.old) (D.faults disk.old) (D.faults disk.new)) }
     ensures untouched { IfErr result (λ fault. fault ≢ MountFault.Device → (D.told disk.new ≡ D.told disk.old) × (D.calls disk.new ≡ D.calls disk.old)) }
     ensures last { IfErr result (λ fault. fault ≡ MountFault.Device → (D.calls disk.new ≡ D.calls disk.old) ⊎ HasFailedLast (D.last_made disk.new) (D.told disk.new)) }
+    ensures grows { D.calls disk.old ≤ D.calls disk.new }
     ensures most { D.calls disk.new ≤ D.calls disk.old + 2 }
     ensures since { IfSome (D.told disk.new) (ChoosesSince (D.calls disk.old)) }
     ensures next { OnOk result (IfSome (D.told disk.new) (ChoosesNext (D.calls disk.old))) }
@@ -199,6 +205,7 @@ fn begin<D: Disk>(alloc: Global, disk: &mut D) -> Result<Prepared, MountFault>
     ensures extends { Extends (D.told disk.old) (D.told disk.new) }
     ensures size { D.size disk.new ≡ D.size disk.old }
     ensures faults { D.faults disk.old ≤ D.faults disk.new }
+    ensures unfailed { OnOk result (D.faults disk.new ≡ D.faults disk.old) }
 {
     let Prepared {
         found,
@@ -234,7 +241,7 @@ pub fn mount<D: Disk>(alloc: Global, disk: D) -> Result<Store<D>, Unmounted<D>>
     ensures two { IfOk result (λ store. D.calls store.disk ≡ D.calls disk + 2) }
     ensures extends { IfOk result (λ store. Extends (D.told disk) (D.told store.disk)) }
     ensures size { IfOk result (λ store. D.size store.disk ≡ D.size disk) }
-    ensures faults { IfOk result (λ store. D.faults disk ≤ D.faults store.disk) }
+    ensures unfailed { IfOk result (λ store. D.faults store.disk ≡ D.faults disk) }
 
     // The transactions make a tree, and the disk has an image that a session can go on from, with these
     // transactions, of which the last has the number `base`, and this tree.
@@ -256,6 +263,7 @@ pub fn mount<D: Disk>(alloc: Global, disk: D) -> Result<Store<D>, Unmounted<D>>
     ensures untouched { IfErr result (λ un. un.fault ≢ MountFault.Device → (D.told un.disk ≡ D.told disk) × (D.calls un.disk ≡ D.calls disk)) }
     // A fault of the disk is that of a read, or of the call that was last asked for.
     ensures last { IfErr result (λ un. un.fault ≡ MountFault.Device → (D.calls un.disk ≡ D.calls disk) ⊎ HasFailedLast (D.last_made un.disk) (D.told un.disk)) }
+    ensures err_grows { IfErr result (λ un. D.calls disk ≤ D.calls un.disk) }
     ensures err_calls { IfErr result (λ un. D.calls un.disk ≤ D.calls disk + 2) }
     ensures err_extends { IfErr result (λ un. Extends (D.told disk) (D.told un.disk)) }
     ensures err_size { IfErr result (λ un. D.size un.disk ≡ D.size disk) }

@@ -72,6 +72,7 @@ pub(crate) fn open<D: Disk>(alloc: Global, disk: &mut D, sup: &Super) -> Result<
     ensures calls { D.calls disk.new ≡ D.calls disk.old }
     ensures size { D.size disk.new ≡ D.size disk.old }
     ensures faults { D.faults disk.old ≤ D.faults disk.new }
+    ensures unfailed { OnOk result (D.faults disk.new ≡ D.faults disk.old) }
 {
     let stream = match walk(alloc, disk, start_of(sup), sup.ring, sup.generation) {
         Ok(stream) => stream,

@@ -6,13 +6,13 @@ ghost use Rattle.fx_plain.specs.Tree.{Tree};
 ghost use Rattle.fx_plain.specs.Table.{is_reading};
 ghost use Rattle.fx_journal.specs.declared.ring.Full.{Full};
 ghost use Rattle.fx_script.specs.declared.script.Task.{Task};
-ghost use Rattle.fx_script.specs.Print.{KeepsRules, StepKeepsRules};
+ghost use Rattle.fx_script.specs.Print.{StepKeepsRules};
 ghost use Rattle.fx_history.specs.History.{settle};
 ghost use Rattle.fx_history.specs.Transcript.{EndsNext};
 ghost use Rattle.fx_image.specs.Longer.{Extends};
 ghost use Rattle.fx_mount.specs.Mounted.{KeepsImages, KeepsWhole, Opens};
 ghost use Rattle.fx_mount.specs.Line.{Changes, Looks, Syncs};
-ghost use Rattle.fx_mount.specs.Calls.{IsFlushedBy, HasFailedLast};
+ghost use Rattle.fx_mount.specs.Calls.{IsFlushedBy, HasFailedLast, flushes};
 
 use crate::put::{PutEnd, put};
 use crate::session::Session;
@@ -21,7 +21,7 @@ use fx_history::{EndKind, History, Outcome};
 use fx_journal::{Ring, Wrote};
 use fx_plain::Step;
 use fx_pool::Pool;
-use fx_script::{Line, Task};
+use fx_script::{Line, SentLine, Task};
 use std::alloc::Global;
 use std::marker::Model;
 
@@ -80,12 +80,11 @@ fn is_reading(step: &Step) -> bool
 
 impl<D: Disk> Store<D> {
     /// Does a line. A line that looks leaves the disk alone, and so does one that changes the tree: its
-    /// record waits in the journal's queue in memory. `sync` writes and flushes, as [`Store::sync`].
-    pub fn exec(&mut self, alloc: Global, task: &Task) -> Outcome
-        requires client { 0 < task.now.client }
-        requires rules { KeepsRules task.now.line }
+    /// record waits in the journal's queue in memory. `sync` writes and flushes, as [`Store::sync`]. The
+    /// line's task is built for this call alone; where there is no memory for it nothing is done.
+    pub fn exec(&mut self, alloc: Global, line: &SentLine<'_>) -> Outcome
         ensures ends { (opening : Tree) → Opens self.old.txns opening →
-            EndsNext opening self.old.base self.old.history self.new.history task.now result.at result.kind }
+            EndsNext opening self.old.base self.old.history self.new.history line.now result.at result.kind }
 
         // A line that changes the tree and is not refused is full exactly where the ring has no place for
         // one more block, unless memory runs out.
@@ -94,17 +93,25 @@ impl<D: Disk> Store<D> {
         ensures room { result.kind ≡ EndKind.Committed → self.old.live + 2 ≤ self.old.ring }
         ensures live { self.new.live + length self.old.history ≤ self.old.live + length self.new.history }
 
-        // Only a commit takes room in the ring, and what it takes waits until the next sync.
+        // Only a commit takes room in the ring, which no line gives back, and what it takes waits until the
+        // next sync.
+        ensures takes { self.old.live ≤ self.new.live }
         ensures stays { result.kind ≢ EndKind.Committed → self.new.live ≡ self.old.live }
-        ensures waits { task.now.line ≢ Line.Sync → self.new.waiting + self.old.live ≡ self.old.waiting + self.new.live }
+        ensures waits { line.now.line ≢ Line.Sync → self.new.waiting + self.old.live ≡ self.old.waiting + self.new.live }
 
-        // The line `sync` alone uses the disk.
-        ensures still { task.now.line ≢ Line.Sync → self.new.disk ≡ self.old.disk }
+        // The line `sync` alone uses the disk, and ends as synced or as a fault of the disk.
+        ensures still { line.now.line ≢ Line.Sync → self.new.disk ≡ self.old.disk }
+        ensures syncs { line.now.line ≡ Line.Sync → Syncs result.kind }
         ensures synced { (calls : ℕ) → result.kind ≡ EndKind.Synced calls → IsFlushedBy calls (D.calls self.new.disk) (D.told self.new.disk) }
         ensures sync_calls { (calls : ℕ) → result.kind ≡ EndKind.Synced calls → D.calls self.new.disk ≡ D.calls self.old.disk + self.old.waiting + 1 }
         ensures sync_waiting { (calls : ℕ) → result.kind ≡ EndKind.Synced calls → self.new.waiting ≡ 0 }
         ensures device { (count : ℕ) → result.kind ≡ EndKind.DeviceFault count → (count ≡ D.faults self.new.disk) × Rose (D.faults self.old.disk) (D.faults self.new.disk) }
-        ensures most { D.calls self.new.disk ≤ D.calls self.old.disk + self.old.waiting + 1 }
+
+        // The count of calls never falls. A block that becomes live waits until it is written by one call,
+        // and a `sync` makes at most one call besides.
+        ensures grows { D.calls self.old.disk ≤ D.calls self.new.disk }
+        ensures kept { D.calls self.old.disk + self.old.waiting + self.new.live ≤ D.calls self.new.disk + self.new.waiting + self.old.live }
+        ensures most { D.calls self.new.disk + self.new.waiting + self.old.live ≤ D.calls self.old.disk + self.old.waiting + self.new.live + flushes line.now.line }
 
         ensures base { self.new.base ≡ self.old.base }
         ensures txns { self.new.txns ≡ self.old.txns }
@@ -113,15 +120,19 @@ impl<D: Disk> Store<D> {
         ensures extends { Extends (D.told self.old.disk) (D.told self.new.disk) }
         ensures size { D.size self.new.disk ≡ D.size self.old.disk }
         ensures faults { D.faults self.old.disk ≤ D.faults self.new.disk }
+        ensures unfailed { ((count : ℕ) → result.kind ≢ EndKind.DeviceFault count) → D.faults self.new.disk ≡ D.faults self.old.disk }
     {
+        let Ok(task) = line.task(alloc) else {
+            return Outcome::new(self.number(), EndKind::OutOfMemory);
+        };
         match &task.line {
             Line::Single(step) => {
                 if is_reading(step) {
                     return self.look(alloc, step);
                 }
-                self.change(alloc, task, step)
+                return self.change(alloc, &task, step);
             }
-            Line::Sync => self.sync_line(),
+            Line::Sync => return self.sync_line(),
         }
     }
 
@@ -149,6 +160,7 @@ impl<D: Disk> Store<D> {
             (full ≡ record { live = self.old.live; promised = 0; want = 1 }) × (self.old.ring < self.old.live + 2) }
         ensures room { result.kind ≡ EndKind.Committed → self.old.live + 2 ≤ self.old.ring }
         ensures live { self.new.live + length self.old.history ≤ self.old.live + length self.new.history }
+        ensures takes { self.old.live ≤ self.new.live }
         ensures stays { result.kind ≢ EndKind.Committed → self.new.live ≡ self.old.live }
         ensures waits { self.new.waiting + self.old.live ≡ self.old.waiting + self.new.live }
         ensures changes { Changes result.kind }
@@ -189,7 +201,9 @@ impl<D: Disk> Store<D> {
         ensures sync_calls { (calls : ℕ) → result.kind ≡ EndKind.Synced calls → D.calls self.new.disk ≡ D.calls self.old.disk + self.old.waiting + 1 }
         ensures sync_waiting { (calls : ℕ) → result.kind ≡ EndKind.Synced calls → self.new.waiting ≡ 0 }
         ensures device { (count : ℕ) → result.kind ≡ EndKind.DeviceFault count → (count ≡ D.faults self.new.disk) × Rose (D.faults self.old.disk) (D.faults self.new.disk) }
-        ensures most { D.calls self.new.disk ≤ D.calls self.old.disk + self.old.waiting + 1 }
+        ensures grows { D.calls self.old.disk ≤ D.calls self.new.disk }
+        ensures kept { D.calls self.old.disk + self.old.waiting ≤ D.calls self.new.disk + self.new.waiting }
+        ensures most { D.calls self.new.disk + self.new.waiting ≤ D.calls self.old.disk + self.old.waiting + 1 }
         ensures history { length self.new.history ≡ length self.old.history }
         ensures base { self.new.base ≡ self.old.base }
         ensures txns { self.new.txns ≡ self.old.txns }
@@ -199,6 +213,7 @@ impl<D: Disk> Store<D> {
         ensures extends { Extends (D.told self.old.disk) (D.told self.new.disk) }
         ensures size { D.size self.new.disk ≡ D.size self.old.disk }
         ensures faults { D.faults self.old.disk ≤ D.faults self.new.disk }
+        ensures unfailed { ((count : ℕ) → result.kind ≢ EndKind.DeviceFault count) → D.faults self.new.disk ≡ D.faults self.old.disk }
     {
         let at = self.number();
         match self.sync() {
@@ -229,10 +244,13 @@ impl<D: Disk> Store<D> {
         // Every image that a stop may leave now has all of the history.
         ensures whole { OnOk result (IfSome (D.told self.new.disk) (KeepsWhole (D.size self.new.disk) self.old.from self.old.txns self.old.base self.new.history)) }
 
-        // One write a block that waits, and one flush.
+        // One write a block that waits, and one flush. After a fault each block that waited was written by
+        // one call or waits still, and at most one call more was made.
         ensures calls { OnOk result (D.calls self.new.disk ≡ D.calls self.old.disk + self.old.waiting + 1) }
-        ensures most { D.calls self.new.disk ≤ D.calls self.old.disk + self.old.waiting + 1 }
         ensures waiting { OnOk result (self.new.waiting ≡ 0) }
+        ensures grows { D.calls self.old.disk ≤ D.calls self.new.disk }
+        ensures kept { D.calls self.old.disk + self.old.waiting ≤ D.calls self.new.disk + self.new.waiting }
+        ensures most { D.calls self.new.disk + self.new.waiting ≤ D.calls self.old.disk + self.old.waiting + 1 }
 
         // A fault is that of the call which was last asked for: it was not made, or it failed.
         ensures failed { OnErr result (Rose (D.faults self.old.disk) (D.faults self.new.disk)) }
@@ -246,6 +264,7 @@ impl<D: Disk> Store<D> {
         ensures extends { Extends (D.told self.old.disk) (D.told self.new.disk) }
         ensures size { D.size self.new.disk ≡ D.size self.old.disk }
         ensures faults { D.faults self.old.disk ≤ D.faults self.new.disk }
+        ensures unfailed { OnOk result (D.faults self.new.disk ≡ D.faults self.old.disk) }
     {
         if let Err(fault) = self.write_all() {
             return Err(fault);
@@ -264,7 +283,9 @@ impl<D: Disk> Store<D> {
     fn write_all(&mut self) -> Result<(), DiskFailed>
         ensures all { OnOk result (self.new.waiting ≡ 0) }
         ensures calls { OnOk result (D.calls self.new.disk ≡ D.calls self.old.disk + self.old.waiting) }
-        ensures most { D.calls self.new.disk ≤ D.calls self.old.disk + self.old.waiting + 1 }
+        ensures grows { D.calls self.old.disk ≤ D.calls self.new.disk }
+        ensures kept { D.calls self.old.disk + self.old.waiting ≤ D.calls self.new.disk + self.new.waiting }
+        ensures most { D.calls self.new.disk + self.new.waiting ≤ D.calls self.old.disk + self.old.waiting + 1 }
         ensures failed { OnErr result (Rose (D.faults self.old.disk) (D.faults self.new.disk)) }
         ensures last { OnErr result (HasFailedLast (D.last_made self.new.disk) (D.told self.new.disk)) }
         ensures history { self.new.history ≡ self.old.history }
@@ -276,6 +297,7 @@ impl<D: Disk> Store<D> {
         ensures extends { Extends (D.told self.old.disk) (D.told self.new.disk) }
         ensures size { D.size self.new.disk ≡ D.size self.old.disk }
         ensures faults { D.faults self.old.disk ≤ D.faults self.new.disk }
+        ensures unfailed { OnOk result (D.faults self.new.disk ≡ D.faults self.old.disk) }
     {
         loop {
             match self.write_one() {
@@ -293,6 +315,7 @@ impl<D: Disk> Store<D> {
         ensures one { result ≡ Ok true → D.calls self.new.disk ≡ D.calls self.old.disk + 1 }
         ensures none { result ≡ Ok false → (self.old.waiting ≡ 0) × (self.new.waiting ≡ 0) }
         ensures still { result ≡ Ok false → self.new.disk ≡ self.old.disk }
+        ensures grows { D.calls self.old.disk ≤ D.calls self.new.disk }
         ensures most { D.calls self.new.disk ≤ D.calls self.old.disk + 1 }
         ensures waiting { OnErr result (self.new.waiting ≡ self.old.waiting) }
         ensures failed { OnErr result (Rose (D.faults self.old.disk) (D.faults self.new.disk)) }
@@ -306,6 +329,7 @@ impl<D: Disk> Store<D> {
         ensures extends { Extends (D.told self.old.disk) (D.told self.new.disk) }
         ensures size { D.size self.new.disk ≡ D.size self.old.disk }
         ensures faults { D.faults self.old.disk ≤ D.faults self.new.disk }
+        ensures unfailed { OnOk result (D.faults self.new.disk ≡ D.faults self.old.disk) }
     {
         let _next = self.ring.pad(&mut self.pool);
         match self
@@ -323,6 +347,7 @@ impl<D: Disk> Store<D> {
         requires { self.old.waiting ≡ 0 }
         ensures calls { IfOk result (λ calls. calls ≡ D.calls self.new.disk) }
         ensures one { OnOk result (D.calls self.new.disk ≡ D.calls self.old.disk + 1) }
+        ensures grows { D.calls self.old.disk ≤ D.calls self.new.disk }
         ensures most { D.calls self.new.disk ≤ D.calls self.old.disk + 1 }
         ensures settled { OnOk result (self.new.history ≡ settle (D.calls self.new.disk) self.old.history) }
         ensures unsettled { OnErr result (self.new.history ≡ self.old.history) }
@@ -339,6 +364,7 @@ impl<D: Disk> Store<D> {
         ensures extends { Extends (D.told self.old.disk) (D.told self.new.disk) }
         ensures size { D.size self.new.disk ≡ D.size self.old.disk }
         ensures faults { D.faults self.old.disk ≤ D.faults self.new.disk }
+        ensures unfailed { OnOk result (D.faults self.new.disk ≡ D.faults self.old.disk) }
     {
         if let Err(fault) = self.disk.flush() {
             return Err(fault);

@@ -1,8 +1,10 @@
 //! Lines on a mounted disk, over mounts.
 use crate::{Store, mkfs, mount};
+use fx_disk::Disk;
 use fx_disks::MemDisk;
-use fx_history::result_text;
-use fx_script::{Task, read_line};
+use fx_history::{Outcome, result_text};
+use fx_item::Bytes;
+use fx_script::{Tasks, read_script};
 use std::alloc::Global;
 use std::test::Fail;
 
@@ -35,44 +37,75 @@ write /v/d/e 3 x => ok 7
 read /v/d/e 3 1 => read 7 1 x
 ";
 
+/// Formats the disk, or says that it could not.
+fn is_formatted<D: Disk>(disk: &mut D) -> bool {
+    mkfs(disk, 256).is_ok()
+}
+
+/// The disk mounted, if it could be.
+fn mounted<D: Disk + Drop>(alloc: Global, disk: D) -> Option<Store<D>> {
+    mount(alloc, disk).ok()
+}
+
+/// The disk that was mounted.
+fn unmounted<D: Disk>(store: Store<D>) -> D {
+    store.end().disk
+}
+
+/// How the first line of the script ends on the store.
+fn outcome_of<D: Disk>(alloc: Global, store: &mut Store<D>, tasks: &Tasks) -> Option<Outcome> {
+    let line = tasks.lines().next()?;
+    Some(store.exec(alloc, &line))
+}
+
+/// What is told of the line.
+fn told_of<D: Disk>(alloc: Global, store: &mut Store<D>, words: &str) -> Result<String, Fail> {
+    let script = Bytes::new(Vec::from_slice(alloc, words.as_bytes())?);
+    let Ok(tasks) = read_script(script, false) else {
+        return Err(Fail::from("not a line"));
+    };
+    if tasks.len() != 1 {
+        return Err(Fail::from("not one line"));
+    }
+    let Some(outcome) = outcome_of(alloc, store, &tasks) else {
+        return Err(Fail::from("no line"));
+    };
+    Ok(result_text(alloc, &tasks, &[outcome])?)
+}
+
 /// The rows as the lines of them end on the store.
-fn ends(alloc: Global, store: &mut Store<MemDisk>, rows: &str) -> Result<String, Fail> {
+fn ends<D: Disk>(alloc: Global, store: &mut Store<D>, rows: &str) -> Result<String, Fail> {
     let mut text = String::new(alloc);
     for row in rows.lines() {
-        let Some((words, _)) = row.split_once(" => ") else {
-            return Err(Fail::from("not a row"));
-        };
-        let Ok(line) = read_line(alloc, words.as_bytes()) else {
-            return Err(Fail::from("not a line"));
-        };
-        let task = Task {
-            client: 1,
-            number: 1,
-            line,
-        };
-        let outcome = store.exec(alloc, &task);
-        let end = result_text(alloc, &[task], &[outcome])?;
-        text.push_str(words)?;
-        text.push_str(" => ")?;
-        text.push_str(end.as_str().trim_start_matches("1 1 "))?;
+        let (words, _) = row.split_once(" => ").unwrap_or((row, ""));
+        let told = told_of(alloc, store, words)?;
+        let end = told.as_str().trim_start_matches("1 1 ");
+        write!(text, "{words} => {end}")?;
     }
     Ok(text)
+}
+
+/// The rows as they end on the disk, which is mounted for them, and the disk behind them.
+fn session<D: Disk + Drop>(alloc: Global, disk: D, rows: &str) -> Result<(String, D), Fail> {
+    let Some(mut store) = mounted(alloc, disk) else {
+        return Err(Fail::from("not mounted"));
+    };
+    let text = ends(alloc, &mut store, rows);
+    let disk = unmounted(store);
+    Ok((text?, disk))
 }
 
 #[test]
 fn lines_over_mounts(rt: HostRuntime) -> Result<(), Fail> {
     let alloc = rt.alloc();
     let mut disk = MemDisk::new(alloc, BLOCKS)?;
-    let Ok(()) = mkfs(&mut disk, 256) else {
+    if !is_formatted(&mut disk) {
         return Err(Fail::from("not formatted"));
-    };
+    }
     for rows in ROWS.split("\n\n") {
-        let Ok(mut store) = mount(alloc, disk) else {
-            return Err(Fail::from("not mounted"));
-        };
-        let text = ends(alloc, &mut store, rows);
-        disk = store.end().disk;
-        assert_eq!(rt; text?.as_str().trim_end(), rows.trim_end());
+        let (text, left) = session(alloc, disk, rows)?;
+        disk = left;
+        assert_eq!(rt; text.as_str().trim_end(), rows.trim_end());
     }
     Ok(())
 }

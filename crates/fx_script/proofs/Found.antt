@@ -1,19 +1,18 @@
 -- What a search for a byte tells.
 use Rattle.std.proofs.Common.{◌≡◌, ◌≢◌, ℕ, zero, suc, ◌<◌, ◌≤◌, ◌==◌, ◌||◌, Bool, true, false, cond, List, [], ◌∷◌, length, get_or, take, drop, refl, sym, ap, ◌∙◌, arith, inl, inr}
-use Rattle.std.specs.Prelude.{All, Option, None, Some, Ok, ◌&&◌, ◌*◌, ◌+◌, ◌⊎◌, not, codes, nat_eq, is_none, is_some, IsTrue, MatchBool}
+use Rattle.std.specs.Prelude.{All, Option, None, Some, ◌&&◌, ◌*◌, ◌+◌, ◌⊎◌, not, codes, nat_eq, is_none, is_some, IsTrue, MatchBool}
 use Rattle.std.specs.Char.{digit_value, is_ascii, is_digit}
 use Rattle.std.specs.List.{list_all, list_any}
 use Rattle.std.specs.Str.{bytes_eq, IsAscii, IsNotAscii}
 use Rattle.std.specs.Cmp.Lexicographic.{pointwise}
 use Rattle.std.specs.Cmp.Derive.{both_true}
-use Rattle.std.proofs.lemmas.Bool.{eq-eqb, eqb-true, ne_eqb, lt-ltb, le-ltb, le-leb, cond-true}
+use Rattle.std.proofs.lemmas.Bool.{eq-eqb, eqb-true, ne_eqb, lt-ltb, le-ltb, le-leb}
 use Rattle.std.proofs.lemmas.List.Elements.{All-nil, All-cons, All-head, All-tail}
 use Rattle.std.proofs.lemmas.Str.{IsUtf8-from_ascii, is_utf8-from_IsUtf8}
 use Rattle.memchr.specs.Find.{IsFirstByte, is_byte, is_byte3}
 use Rattle.percent_encoding.specs.Percent.{percent_decode}
 use Rattle.fx_item.specs.Name.{has_byte, is_name}
 use Rattle.fx_script.specs.Cut.{onto_first, cut}
-use Rattle.fx_script.specs.Word.{if_name, name_of}
 use Rattle.fx_script.proofs.Cuts.{cut_at, cut_whole}
 
 -- the first piece ends where the separator is found
@@ -127,7 +126,7 @@ ascii_is false text one h = absurd (cc)
 -- a name of ASCII without `%` stands for itself
 pub plain_name : (text : List ℕ) (found : Option ℕ) → 0 < length text → length text ≤ 255
     → pointwise nat_eq text (codes ".") ≡ false → pointwise nat_eq text (codes "..") ≡ false
-    → IsFirstByte (is_byte3 37 47 0) text found → is_some found ≡ false → IsAscii text → name_of text ≡ Ok text
+    → IsFirstByte (is_byte3 37 47 0) text found → is_some found ≡ false → IsAscii text → is_name (percent_decode text) ≡ true
 plain_name text (Some i) some few dot dots at e ascii = absurd (cc)
 plain_name text None some few dot dots none e ascii =
     let slash = has_not 47 text (lacks_of_three 37 47 0 text 47 refl none) in
@@ -136,4 +135,4 @@ plain_name text None some few dot dots none e ascii =
     let size = both_true (lt-ltb 0 (length text) some) (le-leb (length text) 255 few) in
     let bytes = both_true (both_true size (ap not slash)) (ap not nul) in
     let named : is_name text ≡ true = both_true (both_true (both_true bytes (ap not dot)) (ap not dots)) utf8 in
-    ap if_name (sym (decoded_same text (lacks_of_three 37 47 0 text 37 refl none))) ∙ cond-true _ _ _ named
+    ap is_name (sym (decoded_same text (lacks_of_three 37 47 0 text 37 refl none))) ∙ named

@@ -1,5 +1,6 @@
 pub mod Cuts
 pub mod Escapes
+pub mod Faults
 pub mod Found
 pub mod Names
 pub mod Numbers

@@ -1,6 +1,6 @@
 -- A line that is read keeps the rules of the grammar.
-use Rattle.std.proofs.Common.{◌≡◌, ℕ, ◌+◌, ◌<◌, ◌≤◌, ◌&&◌, ◌==◌, Bool, true, false, List, [], ◌∷◌, refl, sym, subst, length, arith, inl, inr}
-use Rattle.std.specs.Prelude.{Result, Ok, Err, All, IfOk, if◌then◌else◌, nat_le, nat_lt, codes}
+use Rattle.std.proofs.Common.{◌≡◌, ℕ, ◌+◌, ◌<◌, ◌≤◌, ◌&&◌, ◌==◌, Bool, true, false, List, [], ◌∷◌, refl, sym, subst, length, arith}
+use Rattle.std.specs.Prelude.{Result, Ok, Err, IsOk, All, if◌then◌else◌, nat_le, nat_lt, codes}
 use Rattle.std.specs.List.{list_all, AllByRecursion}
 use Rattle.std.specs.Str.{bytes_eq}
 use Rattle.std.specs.Char.{is_ascii}
@@ -18,13 +18,15 @@ use Rattle.fx_script.specs.declared.line.Line.TheVariants.{Single, Sync}
 use Rattle.fx_script.specs.declared.fault.LineFault.{LineFault}
 use Rattle.fx_script.specs.declared.fault.LineFault.TheVariants as faults
 use Rattle.fx_script.specs.declared.script.Task.{Task}
-use Rattle.fx_script.specs.declared.script.ScriptFault.{ScriptFault}
-use Rattle.fx_script.specs.declared.script.TheConstants.{MAX_LINES}
+use Rattle.fx_script.specs.declared.fault.BadLine.{BadLine}
+use Rattle.fx_script.specs.declared.sent.TheConstants.{MAX_LINES, MAX_CLIENT}
 use Rattle.fx_script.specs.Cut.{onto_first, cut, is_blank, words_of, lines_of}
 use Rattle.fx_script.specs.Word.{is_decimal, number_of, max_number, text_of, name_of, in_front, names_of, few_names_of, below_root, path_of}
-use Rattle.fx_script.specs.Line.{IsUnlessMemory, ◌>>=◌, only_word, three_words, mkdir_of, create_of, write_of, read_of, list_of, stat_of, step_of, sync_of, single_of, has_semicolon, line_of_words, line_of}
+use Rattle.fx_script.specs.Line.{◌>>=◌, only_word, only_path, three_words, mkdir_of, create_of, write_of, read_of, list_of, stat_of, step_of, sync_of, single_of, has_semicolon, line_of_words}
+use Rattle.fx_script.specs.Checked.{line_read}
+use Rattle.fx_script.specs.Sent.{IsSent}
 use Rattle.fx_script.specs.Print.{IsPath, IsText, StepKeepsRules, KeepsRules}
-use Rattle.fx_script.specs.Script.{client_of, task, sent_task, task_of_words, task_of, before_tasks, tasks_from, script_of}
+use Rattle.fx_script.specs.Script.{client_of_number, client_of, task, first_sender, sender_of, task_of_words, task_of, before_tasks, tasks_from, script_of}
 use Rattle.fx_script.proofs.Utf8.{IsByte, AreBytes}
 
 -- ---- what is made of a value
@@ -153,11 +155,11 @@ answered made step e h = let same : made ≡ step = cc in subst StepKeepsRules s
 
 -- a step whose one word is a path
 path_step : (make : List (List ℕ) → Step) (words : List (List ℕ)) (step : Step) → ((path : List (List ℕ)) → IsPath path → StepKeepsRules (make path))
-    → (only_word words >>= λ word. path_of word >>= λ path. Ok (make path)) ≡ Ok step → StepKeepsRules step
+    → (only_path words >>= λ path. Ok (make path)) ≡ Ok step → StepKeepsRules step
 path_step make words step keeps e =
-    let word = made_of (only_word words) (λ word. path_of word >>= λ path. Ok (make path)) step e in
-    let path = made_of (path_of word.x) (λ path. Ok (make path)) step word.gives in
-    answered (make path.x) step path.gives (keeps path.x (path_named word.x path.x path.is))
+    let path = made_of (only_path words) (λ path. Ok (make path)) step e in
+    let word = made_of (only_word words) path_of path.x path.is in
+    answered (make path.x) step path.gives (keeps path.x (path_named word.x path.x word.gives))
 
 write_step : (words : List (List ℕ)) (step : Step) → AreWords words → write_of words ≡ Ok step → StepKeepsRules step
 write_step words step h e =
@@ -213,17 +215,9 @@ words_rules words line h e =
     let some = unless_ok (is_blank words) (if has_semicolon words then Err faults.UnknownWord else single_of words) faults.Empty line e in
     single_rules words line h (unless_ok (has_semicolon words) (single_of words) faults.UnknownWord line some)
 
--- a line that is read keeps the rules
-pub line_rules : (bytes : List ℕ) (line : Line) → line_of bytes ≡ Ok line → KeepsRules line
-line_rules bytes line e =
-    let told = if_ok (list_all is_ascii bytes) (line_of_words (words_of bytes)) faults.NotAscii line e in
-    words_rules (words_of bytes) line (cut_words 32 bytes told.0) told.1
-
--- the same of an answer, which may be that memory ran out
-pub read_rules : (answer : Result Line LineFault) (bytes : List ℕ) → list_all is_ascii bytes ≡ true → IsUnlessMemory answer (line_of_words (words_of bytes)) → IfOk answer KeepsRules
-read_rules (Ok line) bytes ascii (inl is) = words_rules (words_of bytes) line (cut_words 32 bytes ascii) (sym is)
-read_rules (Ok line) bytes ascii (inr is) = absurd (cc)
-read_rules (Err fault) bytes ascii is = tt
+-- a line of ASCII that is read keeps the rules
+pub line_rules : (bytes : List ℕ) (line : Line) → list_all is_ascii bytes ≡ true → line_of_words (words_of bytes) ≡ Ok line → KeepsRules line
+line_rules bytes line ascii e = words_rules (words_of bytes) line (cut_words 32 bytes ascii) e
 
 -- ---- scripts
 
@@ -233,15 +227,59 @@ task_rules number client words t h e =
     let same : (let x : Task = record { client = client; number = number; line = line.x } in x) ≡ t = cc line.gives in
     subst (λ (x : Task). KeepsRules x.line) same (words_rules words line.x h line.is)
 
-sent_rules : (number : ℕ) (words : List (List ℕ)) (t : Task) → AreWords words → sent_task number words ≡ Ok t → KeepsRules t.line
-sent_rules number [] t h e = absurd (cc)
-sent_rules number (client ∷ words) t h e =
-    let sender = made_of (client_of client) (λ (client : ℕ). task number client words) t e in
-    task_rules number sender.x words t h.1 sender.gives
+first_rules : (words : List (List ℕ)) (found : ℕ × List (List ℕ)) → AreWords words → first_sender words ≡ Ok found → AreWords found.1
+first_rules [] found h e = absurd (cc)
+first_rules (client ∷ words) found h e =
+    let sender = made_of (client_of client) (λ (client : ℕ). Ok (client, words)) found e in
+    let same : (sender.x, words) ≡ found = cc sender.gives in
+    subst (λ (f : ℕ × List (List ℕ)). AreWords f.1) same h.1
+
+sender_rules : (many : Bool) (words : List (List ℕ)) (found : ℕ × List (List ℕ)) → AreWords words → sender_of many words ≡ Ok found → AreWords found.1
+sender_rules false words found h e =
+    let same : (1, words) ≡ found = cc in
+    subst (λ (f : ℕ × List (List ℕ)). AreWords f.1) same h
+sender_rules true words found h e = first_rules words found h (unless_ok (is_blank words) (first_sender words) faults.Empty found e)
+
+read_line_is : (found : Result Line LineFault) → IsOk found → found ≡ Ok (line_read found)
+read_line_is (Ok line) e = refl
+read_line_is (Err fault) e = absurd (cc)
+
+abbrev IsClient : ℕ → Type 0
+IsClient client = (0 < client) × (client ≤ MAX_CLIENT)
+
+number_client : (number : Result ℕ LineFault) (client : ℕ) → client_of_number number ≡ Ok client → IsClient client
+number_client (Err fault) client e = absurd (cc)
+number_client (Ok number) client e =
+    let told = if_ok (nat_lt 0 number && nat_le number MAX_CLIENT) (Ok number) faults.BadClient client e in
+    let parts = and_parts (nat_lt 0 number) (nat_le number MAX_CLIENT) told.0 in
+    let same : number ≡ client = cc told.1 in
+    subst IsClient same (ltb-true 0 number parts.0, leb-true number MAX_CLIENT parts.1)
+
+first_client : (words : List (List ℕ)) (found : ℕ × List (List ℕ)) → first_sender words ≡ Ok found → IsClient found.0
+first_client [] found e = absurd (cc)
+first_client (client ∷ words) found e =
+    let sender = made_of (client_of client) (λ (client : ℕ). Ok (client, words)) found e in
+    let same : (sender.x, words) ≡ found = cc sender.gives in
+    subst (λ (f : ℕ × List (List ℕ)). IsClient f.0) same (number_client (number_of client) sender.x sender.is)
+
+sender_client : (many : Bool) (words : List (List ℕ)) (found : ℕ × List (List ℕ)) → sender_of many words ≡ Ok found → IsClient found.0
+sender_client false words found e =
+    let same : (1, words) ≡ found = cc in
+    subst (λ (f : ℕ × List (List ℕ)). IsClient f.0) same (omega arith, omega arith)
+sender_client true words found e = first_client words found (unless_ok (is_blank words) (first_sender words) faults.Empty found e)
+
+-- a line that was checked
+pub is_sent : (many : Bool) (line : List ℕ) (client : ℕ) (words : List (List ℕ)) → list_all is_ascii line ≡ true → Ok (client, words) ≡ sender_of many (words_of line) → IsOk (line_of_words words) → IsSent client words
+is_sent many line client words ascii sent right = record {
+  right = right;
+  rules = words_rules words (line_read (line_of_words words)) (sender_rules many (words_of line) (client, words) (cut_words 32 line ascii) (sym sent)) (read_line_is (line_of_words words) right);
+  from = sender_client many (words_of line) (client, words) (sym sent);
+}
 
 task_words_rules : (many : Bool) (number : ℕ) (words : List (List ℕ)) (t : Task) → AreWords words → task_of_words many number words ≡ Ok t → KeepsRules t.line
-task_words_rules false number words t h e = task_rules number 1 words t h e
-task_words_rules true number words t h e = sent_rules number words t h (unless_ok (is_blank words) (sent_task number words) faults.Empty t e)
+task_words_rules many number words t h e =
+    let found = made_of (sender_of many words) (λ (found : ℕ × List (List ℕ)). task number found.0 found.1) t e in
+    task_rules number found.x.0 found.x.1 t (sender_rules many words found.x h found.is) found.gives
 
 one_task_rules : (many : Bool) (number : ℕ) (line : List ℕ) (t : Task) → task_of many number line ≡ Ok t → KeepsRules t.line
 one_task_rules many number line t e =
@@ -252,7 +290,7 @@ one_task_rules many number line t e =
 abbrev pub AllKeepRules : List Task → Type 0
 AllKeepRules tasks = All (λ task. KeepsRules task.line) tasks
 
-before_rules : (number : ℕ) (first : Result Task LineFault) (rest : Result (List Task) ScriptFault) (ts : List Task) → ((t : Task) → first ≡ Ok t → KeepsRules t.line)
+before_rules : (number : ℕ) (first : Result Task LineFault) (rest : Result (List Task) BadLine) (ts : List Task) → ((t : Task) → first ≡ Ok t → KeepsRules t.line)
     → ((us : List Task) → rest ≡ Ok us → AllKeepRules us) → before_tasks number first rest ≡ Ok ts → AllKeepRules ts
 before_rules number (Err fault) rest ts one more e = absurd (cc)
 before_rules number (Ok t) (Err fault) ts one more e = absurd (cc)

@@ -1,7 +1,9 @@
 pub mod Cut
 pub mod Word
 pub mod Line
+pub mod Checked
 pub mod Script
 pub mod Escape
 pub mod Print
 pub mod Fault
+pub mod Sent

@@ -1,5 +1,5 @@
 -- What a line says, and its first fault.
-use Rattle.std.specs.Prelude.{◌≡◌, ◌⊎◌, ℕ, Bool, List, [], ◌∷◌, Result, Ok, Err, if◌then◌else◌, codes}
+use Rattle.std.specs.Prelude.{◌≡◌, ℕ, Bool, List, [], ◌∷◌, Result, Ok, Err, if◌then◌else◌, codes}
 use Rattle.std.specs.List.{list_all, list_any}
 use Rattle.std.specs.Borrow.{Bor}
 use Rattle.std.specs.Str.{bytes_eq}
@@ -36,13 +36,17 @@ seen_word found = found >>= λ word. Ok word.now
 abbrev pub seen_words : Result (Bor (List ℕ) × Bor (List ℕ) × Bor (List ℕ)) LineFault → Result (List ℕ × List ℕ × List ℕ) LineFault
 seen_words found = found >>= λ words. Ok (words.0.now, words.1.now, words.2.now)
 
+-- the one word, which is a path
+abbrev pub only_path : List (List ℕ) → Result (List (List ℕ)) LineFault
+only_path words = only_word words >>= path_of
+
 -- `mkdir PATH`
 abbrev pub mkdir_of : List (List ℕ) → Result Step LineFault
-mkdir_of words = only_word words >>= λ word. path_of word >>= λ path. Ok (Mkdir path)
+mkdir_of words = only_path words >>= λ path. Ok (Mkdir path)
 
 -- `create PATH`
 abbrev pub create_of : List (List ℕ) → Result Step LineFault
-create_of words = only_word words >>= λ word. path_of word >>= λ path. Ok (Create path)
+create_of words = only_path words >>= λ path. Ok (Create path)
 
 -- `write PATH AT TEXT`
 abbrev pub write_of : List (List ℕ) → Result Step LineFault
@@ -64,11 +68,11 @@ read_of words =
 
 -- `list PATH`
 abbrev pub list_of : List (List ℕ) → Result Step LineFault
-list_of words = only_word words >>= λ word. path_of word >>= λ path. Ok (ListStep path)
+list_of words = only_path words >>= λ path. Ok (ListStep path)
 
 -- `stat PATH`
 abbrev pub stat_of : List (List ℕ) → Result Step LineFault
-stat_of words = only_word words >>= λ word. path_of word >>= λ path. Ok (StatStep path)
+stat_of words = only_path words >>= λ path. Ok (StatStep path)
 
 -- the step that its first word names
 abbrev pub step_of : List (List ℕ) → Result Step LineFault
@@ -108,10 +112,6 @@ line_of_words words =
 -- what a line says, or its first fault
 abbrev pub line_of : List ℕ → Result Line LineFault
 line_of line = if list_all is_ascii line then line_of_words (words_of line) else Err faults.NotAscii
-
--- the answer is this one, or memory ran out
-abbrev pub IsUnlessMemory : {A : Type 0} → Result A LineFault → Result A LineFault → Type 0
-IsUnlessMemory answer wanted = (answer ≡ wanted) ⊎ (answer ≡ Err faults.OutOfMemory)
 
 -- a line was read so, or memory ran out
 abbrev pub IsLine : Result Line LineFault → Result Line LineFault → Type 0

@@ -3,7 +3,7 @@ ghost use Rattle.std.specs.Prelude.{◌≡◌};
 ghost use Rattle.fx_script.specs.declared.fault.LineFault.TheVariants.{OutOfMemory};
 ghost use Rattle.fx_script.specs.Fault.{fault_word};
 
-use std::alloc::{AllocError, AllocFailed};
+use std::alloc::AllocError;
 use thiserror::Error;
 
 /// Why a line was not read: the first fault in this order, but for `OutOfMemory`, which may come at any line.
@@ -41,6 +41,16 @@ pub enum LineFault {
     OutOfMemory,
 }
 
+/// The first wrong line of a script, and its first fault, which is never `OutOfMemory`.
+#[derive(Clone, Copy, Debug, PartialEq, Eq, Drop, Error)]
+#[error("line {number}: {fault}")]
+pub struct BadLine {
+    /// The number of the line, from 1.
+    pub number: u32,
+    /// What is wrong with it.
+    pub fault: LineFault,
+}
+
 impl LineFault {
     /// The word that tells the fault: its name in small letters.
     pub fn word(self) -> &'static str
@@ -65,14 +75,6 @@ impl From<AllocError> for LineFault {
     ghost from_gives = { λ _ fault. fault ≡ OutOfMemory };
 
     fn from(_error: AllocError) -> LineFault {
-        LineFault::OutOfMemory
-    }
-}
-
-impl<T: Drop> From<AllocFailed<T>> for LineFault {
-    ghost from_gives = { λ _ fault. fault ≡ OutOfMemory };
-
-    fn from(_error: AllocFailed<T>) -> LineFault {
         LineFault::OutOfMemory
     }
 }

@@ -7,14 +7,16 @@ mod line;
 mod pieces;
 mod print;
 mod script;
+mod sent;
 mod steps;
 mod word;
 
 pub use escape::push_escaped;
-pub use fault::LineFault;
+pub use fault::{BadLine, LineFault};
 pub use line::{Line, read_line};
 pub use print::print_line;
-pub use script::{MAX_CLIENT, MAX_LINES, ScriptFault, Task, Tasks, read_script};
+pub use script::{SentLines, Task, Tasks, read_script};
+pub use sent::{MAX_CLIENT, MAX_LINES, SentLine};
 pub use word::read_number;
 
 #[cfg(test)]

@@ -1,15 +1,16 @@
 //! What a line says.
-ghost use Rattle.std.specs.Prelude.{◌≡◌, IfOk};
+ghost use Rattle.std.specs.Prelude.{◌≡◌, IfOk, IsOk};
 ghost use Rattle.std.specs.List.{list_all};
 ghost use Rattle.std.specs.Char.{is_ascii};
 ghost use Rattle.fx_script.specs.Print.{KeepsRules};
-ghost use Rattle.fx_script.specs.Line.{IsUnlessMemory, IsLine, has_semicolon, sync_of, single_of, line_of, line_of_words};
+ghost use Rattle.fx_script.specs.Line.{IsLine, has_semicolon, sync_of, single_of, line_of, line_of_words};
+ghost use Rattle.fx_script.specs.Checked.{line_in, line_said};
 
 use crate::fault::LineFault;
 use crate::pieces::Pieces;
-use crate::steps::read_step;
+use crate::steps::{StepWords, check_step, copy_step};
 use fx_plain::Step;
-use std::alloc::Global;
+use std::alloc::{AllocError, Global};
 
 /// What a line says.
 #[derive(Debug, Drop)]
@@ -17,6 +18,13 @@ pub enum Line {
     /// One step.
     Single(Step),
     /// All that was done before is made durable.
+    Sync,
+}
+
+/// The words of a line, each checked.
+#[derive(Drop)]
+pub(crate) enum LineWords<'a> {
+    Single(StepWords<'a>),
     Sync,
 }
 
@@ -34,34 +42,34 @@ fn has_semicolon(mut words: Pieces<'_>) -> bool
     words.may_have(b';') && words.any(|word| word == b";".as_slice())
 }
 
-/// What the words after `sync` say.
-fn read_sync(mut words: Pieces<'_>) -> Result<Line, LineFault>
-    ensures { result ≡ sync_of words.entry }
+/// The words after `sync`, of which there is none.
+fn check_sync<'a>(mut words: Pieces<'a>) -> Result<LineWords<'a>, LineFault>
+    ensures { line_said result ≡ sync_of words.entry }
 {
     match words.next() {
-        None => Ok(Line::Sync),
+        None => Ok(LineWords::Sync),
         Some(_) => Err(LineFault::WordCount),
     }
 }
 
-/// What the words of a line say that is no group.
-fn read_single(alloc: Global, words: Pieces<'_>) -> Result<Line, LineFault>
-    ensures { IsUnlessMemory result (single_of words.entry) }
+/// The words of a line that is no group.
+fn check_single<'a>(words: Pieces<'a>) -> Result<LineWords<'a>, LineFault>
+    ensures { line_said result ≡ single_of words.entry }
 {
     let mut rest = words.again();
     let Some(word) = rest.next() else {
         return Err(LineFault::Empty);
     };
     if word == b"sync".as_slice() {
-        return read_sync(rest);
+        return check_sync(rest);
     }
-    let step = read_step(alloc, words)?;
-    Ok(Line::Single(step))
+    let step = check_step(words)?;
+    Ok(LineWords::Single(step))
 }
 
-/// What the words of a line say.
-pub(crate) fn read_words(alloc: Global, words: Pieces<'_>) -> Result<Line, LineFault>
-    ensures { IsUnlessMemory result (line_of_words words.entry) }
+/// The words of a line.
+pub(crate) fn check_words<'a>(words: Pieces<'a>) -> Result<LineWords<'a>, LineFault>
+    ensures { line_said result ≡ line_of_words words.entry }
 {
     if words.is_blank() {
         return Err(LineFault::Empty);
@@ -69,7 +77,21 @@ pub(crate) fn read_words(alloc: Global, words: Pieces<'_>) -> Result<Line, LineF
     if has_semicolon(words.again()) {
         return Err(LineFault::UnknownWord);
     }
-    read_single(alloc, words)
+    check_single(words)
+}
+
+/// What the words of a line say, with names and a text of its own. For `sync` no memory is taken.
+pub(crate) fn copy_line(alloc: Global, words: &LineWords<'_>) -> Result<Line, AllocError>
+    ensures line { IfOk result (λ line. line ≡ line_in words.now) }
+    ensures sync { line_in words.now ≡ Line.Sync → IsOk result }
+{
+    match words {
+        LineWords::Single(step) => {
+            let step = copy_step(alloc, step)?;
+            Ok(Line::Single(step))
+        }
+        LineWords::Sync => Ok(Line::Sync),
+    }
 }
 
 /// What a line says, its line feed not among the bytes. Fails with the first fault, or where memory runs out.
@@ -81,5 +103,7 @@ pub fn read_line(alloc: Global, bytes: &[u8]) -> Result<Line, LineFault>
     if !is_ascii(bytes) {
         return Err(LineFault::NotAscii);
     }
-    read_words(alloc, Pieces::new(bytes, b' '))
+    let words = check_words(Pieces::new(bytes, b' '))?;
+    let line = copy_line(alloc, &words)?;
+    Ok(line)
 }

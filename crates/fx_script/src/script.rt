@@ -1,24 +1,16 @@
 //! What a script says, line by line.
-ghost use Rattle.std.specs.Prelude.{◌≡◌, ◌≢◌, ℕ, All, Err, IfOk};
-ghost use Rattle.fx_script.specs.Line.{IsUnlessMemory};
-ghost use Rattle.fx_script.specs.declared.script.ScriptFault.TheVariants.{BadLine, OutOfMemory};
-ghost use Rattle.fx_script.specs.declared.fault.LineFault.TheVariants as line_faults;
+ghost use Rattle.std.specs.Prelude.{◌≡◌, ◌≢◌, ℕ, All, Err, IfOk, length};
+ghost use Rattle.std.specs.Iterator.{YieldsFirst, item_count};
+ghost use Rattle.fx_script.specs.declared.fault.LineFault.TheVariants.{OutOfMemory};
 ghost use Rattle.fx_script.specs.Print.{KeepsRules};
-ghost use Rattle.fx_script.specs.Script.{AreTasks, client_of, task, sent_task, task_of_words, task_of, script_of};
+ghost use Rattle.fx_script.specs.Script.{counted, script_of};
 
-use crate::fault::LineFault;
-use crate::line::{Line, is_ascii, read_words};
+use crate::fault::BadLine;
+use crate::line::Line;
 use crate::pieces::Pieces;
-use crate::word::read_number;
-use std::alloc::{AllocFailed, Global};
+use crate::sent::{SentLine, check_line, checked_line};
+use fx_item::Bytes;
 use std::marker::Model;
-use thiserror::Error;
-
-/// The most lines of a script.
-pub const MAX_LINES: u32 = 65_536;
-
-/// The greatest number of a client.
-pub const MAX_CLIENT: u32 = 16;
 
 /// A line, the client that sends it, and its number in the script, from 1.
 #[derive(Debug, Drop)]
@@ -31,10 +23,13 @@ pub struct Task {
     pub line: Line,
 }
 
-/// The tasks of a script, in the order of its lines.
+/// A script each of whose lines was checked, which contracts see as the list of its tasks. It holds the bytes of the
+/// script alone: the task of a line is built where it is asked for.
 #[derive(Debug, Drop)]
 pub struct Tasks {
-    items: Vec<Task>,
+    text: Bytes,
+    many: bool,
+    count: u32,
 }
 
 impl Model for Tasks {
@@ -43,123 +38,97 @@ impl Model for Tasks {
 
     ghost Value = { List Task };
 
-    ghost view = { λ t. t.items.items };
+    ghost use Rattle.std.specs.Prelude.{◌≡◌, Ok};
+    ghost use Rattle.fx_script.specs.Script.{counted, script_of, tasks_read};
+
+    ghost view = { λ t. tasks_read (script_of t.many t.text) };
+
+    ghost invariant = { λ t. Ok t.count ≡ counted 0 (script_of t.many t.text) };
 }
 
 impl Tasks {
-    /// These tasks.
-    pub fn new(items: Vec<Task>) -> Tasks
-        ensures { result ≡ items.items }
+    /// How many there are.
+    pub fn len(&self) -> u32
+        ensures { result ≡ length self.now }
     {
-        Tasks { items }
+        self.count
     }
 
-    /// The tasks as a slice.
-    pub fn as_slice(&self) -> &[Task]
-        ensures { result.now ≡ self.now }
+    /// The lines, one after another. Going over them takes no memory, and costs the bytes of the script.
+    pub fn lines(&self) -> SentLines<'_>
+        ensures { result ≡ self.now }
     {
-        self.items.as_slice()
-    }
-
-    /// The vector that holds them.
-    pub fn into_vec(self) -> Vec<Task>
-        ensures { result.items ≡ self }
-    {
-        self.items
+        SentLines {
+            rest: Pieces::lines(self.text.as_slice()),
+            number: 1,
+            many: self.many,
+        }
     }
 }
 
-/// Why a script was not read.
-#[derive(Clone, Copy, Debug, PartialEq, Eq, Drop, Error)]
-pub enum ScriptFault {
-    /// The first wrong line, and its first fault, which is never `OutOfMemory`.
-    #[error("line {number}: {fault}")]
-    BadLine { number: u32, fault: LineFault },
-    /// Memory ran out.
-    #[error("out of memory")]
-    OutOfMemory,
+/// The lines of a script that are left, which contracts see as the list of their tasks.
+#[derive(Drop)]
+pub struct SentLines<'a> {
+    rest: Pieces<'a>,
+    number: u32,
+    many: bool,
 }
 
-impl<T: Drop> From<AllocFailed<T>> for ScriptFault {
-    ghost from_gives = { λ _ fault. fault ≡ OutOfMemory };
+impl<'a> Model for SentLines<'a> {
+    ghost use Rattle.std.specs.Prelude.{List};
+    ghost use Rattle.fx_script.specs.declared.script.Task.{Task};
 
-    fn from(_error: AllocFailed<T>) -> ScriptFault {
-        ScriptFault::OutOfMemory
+    ghost Value = { List Task };
+
+    ghost use Rattle.std.specs.Prelude.{IsOk};
+    ghost use Rattle.fx_script.specs.Script.{tasks_from, tasks_read};
+
+    ghost view = { λ l. tasks_read (tasks_from l.many l.number l.rest) };
+
+    ghost invariant = { λ l. IsOk (tasks_from l.many l.number l.rest) };
+}
+
+impl<'a> Iterator for SentLines<'a> {
+    type Item = SentLine<'a>;
+
+    ghost next_gives = { YieldsFirst (λ lines. lines) };
+
+    ghost remaining = { item_count (λ lines. lines) };
+
+    fn next(&mut self) -> Option<SentLine<'a>> {
+        let line = self.rest.next()?;
+        let number = self.number;
+        let line = checked_line(self.many, number, line);
+        self.number = number + 1;
+        Some(line)
     }
 }
 
-/// The client that the word is.
-fn read_client(word: &[u8]) -> Result<u32, LineFault>
-    ensures { result ≡ client_of word.now }
+/// How many lines there are, each of which is right, or the first wrong one.
+fn check_lines(text: &[u8], many: bool) -> Result<u32, BadLine>
+    ensures { result ≡ counted 0 (script_of many text.now) }
 {
-    match read_number(word) {
-        Ok(number) if 0 < number && number <= MAX_CLIENT => Ok(number),
-        _ => Err(LineFault::BadClient),
+    let mut count = 0;
+    for line in Pieces::lines(text) {
+        let number = count + 1;
+        if let Err(fault) = check_line(many, number, line) {
+            return Err(BadLine { number, fault });
+        }
+        count = number;
     }
+    Ok(count)
 }
 
-/// The task of a line with these words, which this client sends.
-fn read_task(alloc: Global, number: u32, client: u32, words: Pieces<'_>) -> Result<Task, LineFault>
-    ensures { IsUnlessMemory result (task number client words.entry) }
-{
-    let line = read_words(alloc, words)?;
-    Ok(Task {
-        client,
-        number,
-        line,
-    })
-}
-
-/// The task of a line with these words, the first of which is the client.
-fn read_sent(alloc: Global, number: u32, mut words: Pieces<'_>) -> Result<Task, LineFault>
-    ensures { IsUnlessMemory result (sent_task number words.entry) }
-{
-    let Some(client) = words.next() else {
-        return Err(LineFault::Empty);
-    };
-    let client = read_client(client)?;
-    read_task(alloc, number, client, words)
-}
-
-/// The task of the line with this number.
-fn read_numbered(alloc: Global, many: bool, number: u32, line: &[u8]) -> Result<Task, LineFault>
-    ensures { IsUnlessMemory result (task_of many number line.now) }
-{
-    if number > MAX_LINES {
-        return Err(LineFault::TooManyLines);
-    }
-    if !is_ascii(line) {
-        return Err(LineFault::NotAscii);
-    }
-    let words = Pieces::new(line, b' ');
-    if !many {
-        return read_task(alloc, number, 1, words);
-    }
-    if words.is_blank() {
-        return Err(LineFault::Empty);
-    }
-    read_sent(alloc, number, words)
-}
-
-/// The tasks of a script: a line for each line feed, and one for what comes after the last of them, if anything does.
+/// The lines of a script: one for each line feed, and one for what comes after the last of them, if anything does.
 /// The client of a line is 1, or where there are `many` its first word. Fails with the first wrong line and its first
-/// fault, or where memory runs out. Costs the bytes of the script.
-pub fn read_script(alloc: Global, bytes: &[u8], many: bool) -> Result<Tasks, ScriptFault>
-    ensures tasks { AreTasks result (script_of many bytes.now) }
-    ensures memory { (number : ℕ) → result ≢ Err (BadLine number line_faults.OutOfMemory) }
+/// fault. Takes no memory; costs the bytes of the script.
+pub fn read_script(text: Bytes, many: bool) -> Result<Tasks, BadLine>
+    ensures tasks { result ≡ script_of many text }
+    ensures memory { (number : ℕ) → result ≢ Err (record { number = number; fault = OutOfMemory }) }
 
     // Each line is one that the grammar has.
     ensures rules { IfOk result (All (λ task. KeepsRules task.line)) }
 {
-    let mut items = Vec::new(alloc);
-    let mut number = 1;
-    for line in Pieces::lines(bytes) {
-        match read_numbered(alloc, many, number, line) {
-            Ok(task) => items.push(task)?,
-            Err(LineFault::OutOfMemory) => return Err(ScriptFault::OutOfMemory),
-            Err(fault) => return Err(ScriptFault::BadLine { number, fault }),
-        }
-        number += 1;
-    }
-    Ok(Tasks { items })
+    let count = check_lines(text.as_slice(), many)?;
+    Ok(Tasks { text, many, count })
 }

@@ -1,12 +1,40 @@
 //! The steps that a line may say.
-ghost use Rattle.std.specs.Prelude.{◌≡◌};
-ghost use Rattle.fx_script.specs.Line.{IsUnlessMemory, mkdir_of, create_of, write_of, read_of, list_of, stat_of, step_of, only_word, three_words, seen_word, seen_words};
+ghost use Rattle.std.specs.Prelude.{◌≡◌, IfOk};
+ghost use Rattle.fx_script.specs.Line.{step_of, write_of, read_of, only_word, only_path, three_words, seen_word, seen_words};
+ghost use Rattle.fx_script.specs.Checked.{path_said, step_in, step_said};
 
 use crate::fault::LineFault;
 use crate::pieces::Pieces;
-use crate::word::{read_number, read_path, read_text};
+use crate::word::{check_path, check_text, copy_path, copy_text, read_number};
 use fx_plain::Step;
-use std::alloc::Global;
+use std::alloc::{AllocError, Global};
+
+/// The words of a step, each checked.
+#[derive(Drop)]
+pub(crate) enum StepWords<'a> {
+    Mkdir {
+        path: &'a [u8],
+    },
+    Create {
+        path: &'a [u8],
+    },
+    Write {
+        path: &'a [u8],
+        at: u32,
+        text: &'a [u8],
+    },
+    Read {
+        path: &'a [u8],
+        at: u32,
+        count: u32,
+    },
+    List {
+        path: &'a [u8],
+    },
+    Stat {
+        path: &'a [u8],
+    },
+}
 
 /// The one word that is left.
 fn only_word<'a>(mut words: Pieces<'a>) -> Result<&'a [u8], LineFault>
@@ -28,88 +56,106 @@ fn three_words<'a>(mut words: Pieces<'a>) -> Result<(&'a [u8], &'a [u8], &'a [u8
     }
 }
 
-/// What the words after `mkdir` say.
-fn read_mkdir(alloc: Global, words: Pieces<'_>) -> Result<Step, LineFault>
-    ensures { IsUnlessMemory result (mkdir_of words.entry) }
+/// The one word that is left, which is a path.
+fn only_path<'a>(words: Pieces<'a>) -> Result<&'a [u8], LineFault>
+    ensures { path_said result ≡ only_path words.entry }
 {
     let path = only_word(words)?;
-    let path = read_path(alloc, path)?;
-    Ok(Step::Mkdir { path })
+    check_path(path)?;
+    Ok(path)
 }
 
-/// What the words after `create` say.
-fn read_create(alloc: Global, words: Pieces<'_>) -> Result<Step, LineFault>
-    ensures { IsUnlessMemory result (create_of words.entry) }
-{
-    let path = only_word(words)?;
-    let path = read_path(alloc, path)?;
-    Ok(Step::Create { path })
-}
-
-/// What the words after `write` say.
-fn read_write(alloc: Global, words: Pieces<'_>) -> Result<Step, LineFault>
-    ensures { IsUnlessMemory result (write_of words.entry) }
+/// The words after `write`.
+fn check_write<'a>(words: Pieces<'a>) -> Result<StepWords<'a>, LineFault>
+    ensures { step_said result ≡ write_of words.entry }
 {
     let (path, at, text) = three_words(words)?;
-    let path = read_path(alloc, path)?;
+    check_path(path)?;
     let at = read_number(at)?;
-    let text = read_text(alloc, text)?;
-    Ok(Step::Write { path, at, text })
+    check_text(text)?;
+    Ok(StepWords::Write { path, at, text })
 }
 
-/// What the words after `read` say.
-fn read_read(alloc: Global, words: Pieces<'_>) -> Result<Step, LineFault>
-    ensures { IsUnlessMemory result (read_of words.entry) }
+/// The words after `read`.
+fn check_read<'a>(words: Pieces<'a>) -> Result<StepWords<'a>, LineFault>
+    ensures { step_said result ≡ read_of words.entry }
 {
     let (path, at, count) = three_words(words)?;
-    let path = read_path(alloc, path)?;
+    check_path(path)?;
     let at = read_number(at)?;
     let count = read_number(count)?;
-    Ok(Step::Read { path, at, count })
+    Ok(StepWords::Read { path, at, count })
 }
 
-/// What the words after `list` say.
-fn read_list(alloc: Global, words: Pieces<'_>) -> Result<Step, LineFault>
-    ensures { IsUnlessMemory result (list_of words.entry) }
-{
-    let path = only_word(words)?;
-    let path = read_path(alloc, path)?;
-    Ok(Step::List { path })
-}
-
-/// What the words after `stat` say.
-fn read_stat(alloc: Global, words: Pieces<'_>) -> Result<Step, LineFault>
-    ensures { IsUnlessMemory result (stat_of words.entry) }
-{
-    let path = only_word(words)?;
-    let path = read_path(alloc, path)?;
-    Ok(Step::Stat { path })
-}
-
-/// The step that the words say.
-pub fn read_step(alloc: Global, mut words: Pieces<'_>) -> Result<Step, LineFault>
-    ensures { IsUnlessMemory result (step_of words.entry) }
+/// The words of a step, the first of which names it.
+pub(crate) fn check_step<'a>(mut words: Pieces<'a>) -> Result<StepWords<'a>, LineFault>
+    ensures { step_said result ≡ step_of words.entry }
 {
     let Some(word) = words.next() else {
         return Err(LineFault::UnknownWord);
     };
     if word == b"mkdir".as_slice() {
-        return read_mkdir(alloc, words);
+        let path = only_path(words)?;
+        return Ok(StepWords::Mkdir { path });
     }
     if word == b"create".as_slice() {
-        return read_create(alloc, words);
+        let path = only_path(words)?;
+        return Ok(StepWords::Create { path });
     }
     if word == b"write".as_slice() {
-        return read_write(alloc, words);
+        return check_write(words);
     }
     if word == b"read".as_slice() {
-        return read_read(alloc, words);
+        return check_read(words);
     }
     if word == b"list".as_slice() {
-        return read_list(alloc, words);
+        let path = only_path(words)?;
+        return Ok(StepWords::List { path });
     }
     if word == b"stat".as_slice() {
-        return read_stat(alloc, words);
+        let path = only_path(words)?;
+        return Ok(StepWords::Stat { path });
     }
     Err(LineFault::UnknownWord)
+}
+
+/// The step that the words say, with names and a text of its own.
+pub(crate) fn copy_step(alloc: Global, words: &StepWords<'_>) -> Result<Step, AllocError>
+    ensures { IfOk result (λ step. step ≡ step_in words.now) }
+{
+    match words {
+        StepWords::Mkdir { path } => {
+            let path = copy_path(alloc, path)?;
+            Ok(Step::Mkdir { path })
+        }
+        StepWords::Create { path } => {
+            let path = copy_path(alloc, path)?;
+            Ok(Step::Create { path })
+        }
+        StepWords::Write { path, at, text } => {
+            let path = copy_path(alloc, path)?;
+            let text = copy_text(alloc, text)?;
+            Ok(Step::Write {
+                path,
+                at: *at,
+                text,
+            })
+        }
+        StepWords::Read { path, at, count } => {
+            let path = copy_path(alloc, path)?;
+            Ok(Step::Read {
+                path,
+                at: *at,
+                count: *count,
+            })
+        }
+        StepWords::List { path } => {
+            let path = copy_path(alloc, path)?;
+            Ok(Step::List { path })
+        }
+        StepWords::Stat { path } => {
+            let path = copy_path(alloc, path)?;
+            Ok(Step::Stat { path })
+        }
+    }
 }

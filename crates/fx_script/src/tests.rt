@@ -156,21 +156,20 @@ fn lines_are_read_and_printed(rt: HostRuntime) -> Result<(), Fail> {
 /// The first wrong line of a script and its fault, or each line after its client and its number.
 fn told_script(alloc: Global, script: &[u8], many: bool) -> Result<Vec<u8>, AllocError> {
     let mut text = Vec::new(alloc);
-    match read_script(alloc, script, many) {
+    match read_script(Bytes::new(Vec::from_slice(alloc, script)?), many) {
         Ok(tasks) => {
-            for task in tasks.as_slice() {
-                let head = format!(in alloc; "{} {} ", task.client, task.number)?;
+            for sent in tasks.lines() {
+                let head = format!(in alloc; "{} {} ", sent.client(), sent.number())?;
                 text.extend_from_slice(head.as_bytes())?;
-                let line = print_line(alloc, &task.line)?;
+                let line = print_line(alloc, &sent.task(alloc)?.line)?;
                 text.extend_from_slice(line.as_slice())?;
                 text.push(b'|')?;
             }
         }
-        Err(ScriptFault::BadLine { number, fault }) => {
+        Err(BadLine { number, fault }) => {
             let end = format!(in alloc; "{} {}", number, fault.word())?;
             text.extend_from_slice(end.as_bytes())?;
         }
-        Err(ScriptFault::OutOfMemory) => return Err(AllocError),
     }
     Ok(text)
 }
@@ -276,8 +275,9 @@ fn limits_of_paths_are_exact(rt: HostRuntime) -> Result<(), Fail> {
 fn limit_of_lines_is_exact(rt: HostRuntime) -> Result<(), Fail> {
     let alloc = rt.alloc();
     let mut script = repeated(alloc, b"mkdir /\n", 65_536)?;
-    let tasks = read_script(alloc, script.as_slice(), false)?;
-    assert_eq!(rt; tasks.as_slice().len(), 65_536);
+    let tasks = read_script(Bytes::new(script.clone()?), false)?;
+    assert_eq!(rt; tasks.len(), 65_536);
+    assert_eq!(rt; tasks.lines().count(), 65_536);
     script.extend_from_slice(b"mkdir /".as_slice())?;
     let told = told_script(alloc, script.as_slice(), false)?;
     assert_eq!(rt; told.as_slice(), b"65537 toomanylines".as_slice());

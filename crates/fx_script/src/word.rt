@@ -1,14 +1,16 @@
 //! What one word of a line stands for.
-ghost use Rattle.std.specs.Prelude.{◌≡◌, IfOk, Ok, IsTrue};
+ghost use Rattle.std.specs.Prelude.{◌≡◌, IfOk, IsTrue, true};
 ghost use Rattle.std.specs.List.{list_all};
 ghost use Rattle.std.specs.Char.{is_ascii_digit};
 ghost use Rattle.percent_encoding.specs.Percent as percent;
-ghost use Rattle.fx_script.specs.Word.{is_decimal, number_of, text_of, name_of, path_of, names_of, few_names_of};
-ghost use Rattle.fx_script.specs.Line.{IsUnlessMemory};
+ghost use Rattle.fx_item.specs.Name.{is_name};
+ghost use Rattle.fx_script.specs.Word.{is_decimal, number_of, text_of, path_of, few_names_of};
+ghost use Rattle.fx_script.specs.Checked.{checked, names_in, path_in};
 ghost use Rattle.fx_script.specs.Cut.{cut};
 
 use crate::fault::LineFault;
 use crate::pieces::Pieces;
+use arrayvec::ArrayVec;
 use fx_item::{Bytes, MAX_NAME, Name, is_name};
 use fx_plain::{MAX_NAMES, Path};
 use memchr::{memchr, memchr3};
@@ -58,20 +60,27 @@ fn decode(alloc: Global, word: &[u8]) -> Result<Vec<u8>, AllocError>
     Ok(bytes)
 }
 
-/// The text that the word stands for.
-pub fn read_text(alloc: Global, word: &[u8]) -> Result<Bytes, LineFault>
-    ensures { IsUnlessMemory result (text_of word.now) }
+/// Whether the word stands for a text.
+pub(crate) fn check_text(word: &[u8]) -> Result<(), LineFault>
+    ensures { checked result (percent.percent_decode word.now) ≡ text_of word.now }
 {
     if word.is_empty() {
         return Err(LineFault::BadText);
     }
+    Ok(())
+}
+
+/// The text that the word stands for.
+pub(crate) fn copy_text(alloc: Global, word: &[u8]) -> Result<Bytes, AllocError>
+    ensures { IfOk result (λ text. text ≡ percent.percent_decode word.now) }
+{
     let bytes = decode(alloc, word)?;
     Ok(Bytes::new(bytes))
 }
 
 /// Whether the piece is one of the names that stand for themselves: of ASCII, without `%`.
 fn is_plain_name(piece: &[u8]) -> bool
-    ensures { IsTrue result → name_of piece.now ≡ Ok piece.now }
+    ensures { IsTrue result → is_name (percent.percent_decode piece.now) ≡ true }
 {
     if piece.is_empty() || piece.len() > MAX_NAME {
         return false;
@@ -85,43 +94,80 @@ fn is_plain_name(piece: &[u8]) -> bool
     piece.is_ascii()
 }
 
-/// The name that a piece of a path stands for.
-fn read_name(alloc: Global, piece: &[u8]) -> Result<Name, LineFault>
-    ensures { IsUnlessMemory result (name_of piece.now) }
+/// Whether the piece is a name once it is decoded.
+fn is_decoded_name(piece: &[u8]) -> bool
+    ensures { result ≡ is_name (percent.percent_decode piece.now) }
 {
-    if is_plain_name(piece) {
-        let letters = Vec::from_slice(alloc, piece)?;
-        return Ok(Name::new(letters));
+    let mut letters = ArrayVec::<u8, MAX_NAME>::new();
+    for letter in percent_decode(piece) {
+        if letters.try_push(letter).is_err() {
+            return false;
+        }
     }
+    is_name(letters.as_slice())
+}
+
+/// Whether a piece of a path stands for a name.
+fn stands_for_name(piece: &[u8]) -> bool
+    ensures { result ≡ is_name (percent.percent_decode piece.now) }
+{
+    is_plain_name(piece) || is_decoded_name(piece)
+}
+
+/// Whether what stands below the root is names between slashes, and not too many.
+fn check_names(text: &[u8]) -> Result<(), LineFault>
+    ensures { checked result (names_in (cut 47 text.now)) ≡ few_names_of (cut 47 text.now) }
+{
+    let mut count = 0;
+    for piece in Pieces::new(text, b'/') {
+        if count == MAX_NAMES {
+            return Err(LineFault::BadPath);
+        }
+        if !stands_for_name(piece) {
+            return Err(LineFault::BadPath);
+        }
+        count += 1;
+    }
+    Ok(())
+}
+
+/// Whether the word is a path.
+pub(crate) fn check_path(word: &[u8]) -> Result<(), LineFault>
+    ensures { checked result (path_in word.now) ≡ path_of word.now }
+{
+    match word.split_first() {
+        Some((b'/', [])) => Ok(()),
+        Some((b'/', below)) => check_names(below),
+        _ => Err(LineFault::BadPath),
+    }
+}
+
+/// The name that a piece of a path stands for.
+fn copy_name(alloc: Global, piece: &[u8]) -> Result<Name, AllocError>
+    ensures { IfOk result (λ name. name ≡ percent.percent_decode piece.now) }
+{
     let letters = decode(alloc, piece)?;
-    if !is_name(letters.as_slice()) {
-        return Err(LineFault::BadPath);
-    }
     Ok(Name::new(letters))
 }
 
 /// The names between the slashes of what stands below the root.
-fn read_names(alloc: Global, text: &[u8]) -> Result<Path, LineFault>
-    ensures { IsUnlessMemory result (few_names_of (cut 47 text.now)) }
+fn copy_names(alloc: Global, text: &[u8]) -> Result<Path, AllocError>
+    ensures { IfOk result (λ path. path ≡ names_in (cut 47 text.now)) }
 {
     // Room for a volume and a node in it, as most paths have.
     let mut names = Vec::with_capacity(alloc, 2)?;
     for piece in Pieces::new(text, b'/') {
-        if names.len() == MAX_NAMES {
-            return Err(LineFault::BadPath);
-        }
-        names.push(read_name(alloc, piece)?)?;
+        names.push(copy_name(alloc, piece)?)?;
     }
     Ok(Path::new(names))
 }
 
 /// The path that the word stands for.
-pub fn read_path(alloc: Global, word: &[u8]) -> Result<Path, LineFault>
-    ensures { IsUnlessMemory result (path_of word.now) }
+pub(crate) fn copy_path(alloc: Global, word: &[u8]) -> Result<Path, AllocError>
+    ensures { IfOk result (λ path. path ≡ path_in word.now) }
 {
     match word.split_first() {
-        Some((b'/', [])) => Ok(Path::new(Vec::new(alloc))),
-        Some((b'/', below)) => read_names(alloc, below),
-        _ => Err(LineFault::BadPath),
+        Some((_, below)) if !below.is_empty() => copy_names(alloc, below),
+        _ => Ok(Path::new(Vec::new(alloc))),
     }
 }

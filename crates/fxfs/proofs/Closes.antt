@@ -1,23 +1,21 @@
 -- The end of a session: what was made is flushed, or the disk failed.
-use Rattle.std.proofs.Common.{ℕ, zero, suc, ◌<◌, ◌≤◌, Bool, true, false, List, [], ◌∷◌, sym, subst, arith}
+use Rattle.std.proofs.Common.{◌≡◌, ℕ, zero, suc, ◌+◌, ◌<◌, ◌≤◌, Bool, true, false, List, [], ◌∷◌, sym, ap, subst, ◌∙◌, length, arith}
 use Rattle.std.specs.Prelude.{All}
+use Rattle.std.proofs.lemmas.List.{length-map}
 use Rattle.fx_plain.specs.Tree.{Tree}
 use Rattle.fx_script.specs.declared.script.Task.{Task}
 use Rattle.fx_history.specs.declared.entry.Entry.{Entry}
 use Rattle.fx_history.specs.Outcome.{LineEnd}
-use Rattle.fx_history.specs.History.{settle, settled_by}
+use Rattle.fx_history.specs.History.{settle, settle_entry, settled_by}
 use Rattle.fx_history.specs.Transcript.{Session}
 use Rattle.fx_history.proofs.Settling.{settled_by_some}
 use Rattle.fx_history.proofs.Sessions.{session_settle}
 use Rattle.fx_image.specs.Standing.{Transactions}
-use Rattle.fx_image.specs.Longer.{Extends}
-use Rattle.fx_image.proofs.Told.{IsTold}
 use Rattle.fxfs.specs.declared.ended.Stop.{Stop}
 use Rattle.fxfs.specs.declared.ended.Stop.TheVariants as stops
 use Rattle.fxfs.specs.Outside.{DiskSeen, StreamSeen, End}
-use Rattle.fxfs.specs.Lines.{IsFlushed, IsUnflushed, HasFlushedAfter, HasFailedAfter, Syncs, Flushes, Finishes, TellsEnd}
+use Rattle.fxfs.specs.Lines.{faults_in, synced_in, IsFlushed, IsUnflushed, HasFlushedAfter, HasFailedAfter, Syncs, Flushes, Finishes, TellsEnd}
 use Rattle.fxfs.specs.Shell.{AreFaults, AreSyncs}
-use Rattle.fxfs.proofs.Syncing.{more_told, below_told}
 
 abbrev AreSettledBy : ℕ → List Entry → Type 0
 AreSettledBy calls history = All (λ entry. entry.settled ≤ calls) history
@@ -38,6 +36,11 @@ settled_all calls (e ∷ h) some zero d l = settled_by_some calls e.settled some
 settled_all calls (e ∷ h) some (suc i) d l = settled_all calls h some i d (omega arith)
 
 module _ (from : ℕ) (txns : Transactions) (before after : DiskSeen) (base : ℕ) (old new : List Entry) where
+  -- no entry is gone or new
+  pub closed_length : (flushed : Bool) → Syncs flushed from txns before after base old new → length new ≡ length old
+  closed_length true k = ap length k.settles ∙ length-map old (settle_entry after.calls)
+  closed_length false k = ap length k.unsettled
+
   -- a session stays one
   pub closed_session : (flushed : Bool) → Syncs flushed from txns before after base old new → AreSettledBy after.calls new
       → (tree : Tree) (tasks : List Task) (outcomes : List LineEnd) → Session tree base old tasks outcomes → Session tree base new tasks outcomes
@@ -50,14 +53,14 @@ module _ (from : ℕ) (txns : Transactions) (before after : DiskSeen) (base : �
   closed_flushes true k = record {
     more = k.more;
     flushed = k.flushed;
+    unfailed = k.unfailed;
     settled = subst (λ (h : List Entry). All (λ entry. 0 < entry.settled) h) (sym k.settles) (settled_all after.calls old (omega (arith, k.more)));
     whole = k.whole;
   }
   closed_flushes false k = record { rose = k.rose; failed = k.failed }
 
 module _ (from : ℕ) (txns : Transactions) (start mid after : DiskSeen) (sink_before sink_after : StreamSeen) (tasks : List Task) (end : End) (grows : start.faults ≤ mid.faults) (told : AreFaults start.faults mid.faults end.outcomes)
-    (began : IsTold start.size start.calls start.told) (was : IsTold mid.size mid.calls mid.told) (ran : Extends start.told mid.told) (closed : Extends mid.told after.told)
-    (syncs : AreSyncs start.calls mid.calls mid.told end.outcomes) where
+    (unfailed : faults_in end.outcomes ≡ 0 → mid.faults ≡ start.faults) (least : start.calls + synced_in end.outcomes ≤ mid.calls) (syncs : AreSyncs start.calls mid.calls mid.told end.outcomes) where
   -- the disk failed after all faults that lines tell
   failed_after : IsUnflushed mid after → HasFailedAfter start after end.outcomes
   failed_after fails = record {
@@ -71,8 +74,9 @@ module _ (from : ℕ) (txns : Transactions) (start mid after : DiskSeen) (sink_b
     flushed = k.flushed;
     settled = k.settled;
     whole = k.whole;
-    more = more_told start.size start.calls mid.size mid.calls after.calls start.told mid.told after.told began was ran closed k.more;
-    below = λ i line calls got is. below_told start.calls mid.calls after.calls calls mid.told after.told closed k.more (syncs i line calls got is);
+    more = omega (arith, least, k.more);
+    unfailed = λ none. k.unfailed ∙ unfailed none;
+    below = λ i line calls got is. omega (arith, (syncs.each i line calls got is).within, k.more);
   }
 
   flushed_finishes : (stop : Stop) → IsFlushed from txns mid after end.base end.history → TellsEnd true sink_before sink_after tasks end.outcomes stop

@@ -1,10 +1,9 @@
 -- How `shell` ends once its lines were run.
 use Rattle.std.proofs.Common.{◌≡◌, ◌≢◌, ℕ, ◌+◌, ◌<◌, ◌≤◌, ◌++◌, List, [], arith, inl, inr, refl, subst, sym, ◌∙◌}
-use Rattle.std.specs.Prelude.{Option, Some, None, Result, Ok, Err, OnOk, OnErr, All}
+use Rattle.std.specs.Prelude.{◌⊎◌, Option, Some, None, Result, Ok, Err, OnOk, OnErr, All}
 use Rattle.std.specs.Option.{IfSome}
 use Rattle.fx_base.specs.Causes.{Rose}
 use Rattle.fx_disk.specs.Record.{DiskRecord}
-use Rattle.fx_disk.proofs.Told.{told-map}
 use Rattle.fx_io.specs.Told.{Takes, TakesFront, GivesAtMost}
 use Rattle.fx_io.proofs.Pieces.{takes_more}
 use Rattle.fx_image.specs.Raising.{ChoosesSince, ChoosesNext}
@@ -22,12 +21,13 @@ use Rattle.fx_mount.specs.declared.fault.MountFault.{MountFault}
 use Rattle.fx_mount.specs.declared.fault.MountFault.TheVariants as mounts
 use Rattle.fx_mount.specs.Found.{HasRing, IsMountedAt, IsMountCause}
 use Rattle.fx_mount.specs.Mounted.{Opens, KeepsImages, KeepsWhole}
+use Rattle.fx_mount.specs.Calls.{HasFailedLast}
 use Rattle.fxfs.specs.declared.ended.Stop.{Stop}
 use Rattle.fxfs.specs.declared.ended.Stop.TheVariants as stops
 use Rattle.fxfs.specs.declared.shell.TheConstants.{MAX_INPUT}
 use Rattle.fxfs.specs.Outside.{DiskSeen, StreamSeen, Outside, End, Prints, PrintsOrFails, IsStopped, GoesOn}
 use Rattle.fxfs.specs.Lines.{Spells, IsNoScript, HasFlushedAfter, HasFailedAfter, Finishes, Tells, TellsUnsynced}
-use Rattle.fxfs.specs.Shell.{AreFaults, AreFull, AreSyncs, HasNotRun, HasRun, HasSynced, HasNotSynced, ShellDid, ShellEnds}
+use Rattle.fxfs.specs.Shell.{AreCalls, AreFaults, AreFull, AreSyncs, HasNotRun, HasRun, HasSynced, HasNotSynced, ShellDid, ShellEnds}
 use Rattle.fxfs.proofs.Told.{front_after}
 use Rattle.fxfs.proofs.Runs.{faults_between}
 
@@ -38,7 +38,7 @@ prints_then (Ok x) a b c p q first grows whole front rose = inl (takes_more a.by
 prints_then (Err e) a b c p q first grows whole front rose = inr (record { front = front_after a.bytes b.bytes c.bytes p q first front; rose = omega (arith, rose) })
 
 goes_on_then : (a b c : DiskSeen) → GoesOn a b → GoesOn b c → GoesOn a c
-goes_on_then a b c g h = record { size = h.size ∙ g.size; extends = extends-then a.told b.told c.told g.extends h.extends; faults = omega (arith, g.faults, h.faults) }
+goes_on_then a b c g h = record { size = h.size ∙ g.size; extends = extends-then a.told b.told c.told g.extends h.extends; calls = omega (arith, g.calls, h.calls); faults = omega (arith, g.faults, h.faults) }
 
 keeps_since : (o : Option DiskRecord) (size from calls : ℕ) (txns : Transactions) (base : ℕ) (history : List Entry) → from ≡ calls → IfSome o (KeepsImages size from txns base history) → IfSome o (ChoosesSince calls)
 keeps_since None size from calls txns base history e k = tt
@@ -66,7 +66,7 @@ full_told (Some r) size base txns opening ring live outcomes (f, mountable, _) h
     let image = mountable.image_is in
     let here = has f image.stream image.chosen (image.next, image.stream_is) in
     let there = others f image.stream image.chosen (image.next, image.stream_is) in
-    λ i end line got is. omega (arith, full i end line got is, here.0, here.1, there.0, there.1)
+    subst (λ (n : ℕ). AreFull n other_live base outcomes) (here.0 ∙ sym there.0) (subst (λ (n : ℕ). AreFull ring n base outcomes) (here.1 ∙ sym there.1) full)
 
 abbrev ended : Stop → ℕ → List Entry → List LineEnd → End
 ended stop base history outcomes = record { stop = stop; base = base; history = history; outcomes = outcomes }
@@ -78,10 +78,12 @@ pub record Ran (before after : Outside) (mid : DiskSeen) (from : ℕ) (txns : Tr
   pub ring_is : IfSome before.disk.told (λ r. HasRing r.contents ring live)
   pub mount_from : from ≡ before.disk.calls
   pub mount_disk : GoesOn before.disk mid
+  pub mount_unfailed : mid.faults ≡ before.disk.faults
   pub session : (opening : Tree) → Opens txns opening → Session opening end.base end.history tasks end.outcomes
   pub told : AreFaults mid.faults after.disk.faults end.outcomes
   pub mount_calls : mid.calls ≡ before.disk.calls + 2
   pub synced : AreSyncs mid.calls after.disk.calls after.disk.told end.outcomes
+  pub calls : AreCalls mid.calls after.disk.calls tasks end.history end.outcomes
   pub full : (opening : Tree) → Opens txns opening → AreFull ring live end.base end.outcomes
   pub finishes : Finishes from txns mid after.disk before.sink after.sink tasks end end.stop
   pub finish_disk : GoesOn mid after.disk
@@ -104,6 +106,7 @@ module _ (before after : Outside) (mid : DiskSeen) (from : ℕ) (txns : Transact
     prefix = keeps_prefix after.disk.told after.disk.size from before.disk.calls txns end.base end.history k.opens.0 k.opens.1 k.mount_from k.images;
     faults = faults_between before.disk.faults mid.faults after.disk.faults after.disk.faults end.outcomes k.mount_disk.faults (omega arith) k.told;
     syncs = subst (λ (n : ℕ). AreSyncs n after.disk.calls after.disk.told end.outcomes) k.mount_calls k.synced;
+    calls = subst (λ (n : ℕ). AreCalls n after.disk.calls tasks end.history end.outcomes) k.mount_calls k.calls;
     full = full_told before.disk.told before.disk.size end.base txns k.opens.0 ring live end.outcomes k.opens.2 k.ring_is (k.full k.opens.0 k.opens.1);
   }
 
@@ -112,8 +115,9 @@ module _ (before after : Outside) (mid : DiskSeen) (from : ℕ) (txns : Transact
     tasks = tasks;
     ran = ran;
     flushed = flushed.flushed;
-    more = told-map (λ r. mid.calls < after.disk.calls) (λ r. before.disk.calls + 3 ≤ after.disk.calls) after.disk.told (λ r lt. omega (arith, lt, k.mount_calls)) flushed.more;
+    more = omega (arith, flushed.more, k.mount_calls);
     below = flushed.below;
+    unfailed = λ none. flushed.unfailed none ∙ k.mount_unfailed;
     settled = flushed.settled;
     whole = keeps_all after.disk.told after.disk.size from before.disk.calls txns end.base end.history k.opens.0 k.opens.1 k.mount_from flushed.whole;
     tells = tells;
@@ -156,6 +160,7 @@ pub record Refused (before after : Outside) (fault : MountFault) (end : End) (ta
   pub cause : IsMountCause before.disk.size before.disk.told before.disk.faults after.disk.faults fault
   pub untouched : fault ≢ mounts.Device → (after.disk.told ≡ before.disk.told) × (after.disk.calls ≡ before.disk.calls)
   pub calls : after.disk.calls ≤ before.disk.calls + 2
+  pub last : fault ≡ mounts.Device → (after.disk.calls ≡ before.disk.calls) ⊎ HasFailedLast after.disk.last_made after.disk.told
   pub disk : GoesOn before.disk after.disk
   pub images : IfSome after.disk.told (ChoosesSince before.disk.calls)
   pub prefix : (opening : Tree) (base : ℕ) → IfSome after.disk.told (KeepsPrefix after.disk.size before.disk.calls opening base [])
@@ -167,7 +172,7 @@ not_run : (before after : Outside) (fault : MountFault) (end : End) (tasks : Lis
 not_run before after fault end tasks k n = let same = k.untouched n in record { stopped = k.stopped; untouched = record { told = same.0; calls = same.1 }; prefix = k.prefix }
 
 refused_did : (fault : MountFault) (before after : Outside) (end : End) (tasks : List Task) → Refused before after fault end tasks → ShellDid before after end end.stop
-refused_did mounts.Device before after end tasks k = subst (ShellDid before after end) (sym (k.device refl)) (k.cause, inl (record { stopped = k.stopped; spelled = (tasks, k.spelled); calls = k.calls; prefix = k.prefix }))
+refused_did mounts.Device before after end tasks k = subst (ShellDid before after end) (sym (k.device refl)) (k.cause, inl (record { stopped = k.stopped; spelled = (tasks, k.spelled); calls = k.calls; failed = k.last refl; prefix = k.prefix }))
 refused_did mounts.OutOfMemory before after end tasks k =
     subst (ShellDid before after end) (sym (k.memory refl)) (inl (not_run before after mounts.OutOfMemory end tasks k (λ e. cc)))
 refused_did mounts.NoSuper before after end tasks k =
@@ -217,7 +222,7 @@ unasked_ends disk source_before source_after sink_before sink_after end told sto
     let after : Outside = record { disk = disk; source = source_after; sink = sink_after } in
     record {
       did = not_asked end.stop before after end (record { stopped = stopped; untouched = record { told = refl; calls = refl }; prefix = λ opening base. told-untouched disk.size disk.calls opening base disk.told told }) why;
-      disk = record { size = refl; extends = extends-same disk.told disk.told refl; faults = omega arith };
+      disk = record { size = refl; extends = extends-same disk.told disk.told refl; calls = omega arith; faults = omega arith };
       images = told-begun disk.size disk.calls disk.told told;
       settled = subst (All (λ (entry : Entry). entry.settled ≤ disk.calls)) (sym stopped.idle.history) (λ i d l. absurd (omega arith));
       source = most;

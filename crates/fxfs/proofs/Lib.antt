@@ -1,5 +1,5 @@
 pub mod Told
-pub mod Clients
+pub mod Going
 pub mod Words
 pub mod Runs
 pub mod Syncing

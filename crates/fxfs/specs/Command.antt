@@ -8,7 +8,7 @@ use Rattle.std.specs.Str.Parse.{digits_value}
 use Rattle.fxfs.specs.declared.command.Command.{Command}
 use Rattle.fxfs.specs.declared.command.Command.TheVariants.{Shell, Mkfs}
 use Rattle.fxfs.specs.declared.command.WordsFault.{WordsFault}
-use Rattle.fxfs.specs.declared.command.WordsFault.TheVariants.{BadWords, OutOfMemory}
+use Rattle.fxfs.specs.declared.command.WordsFault.TheVariants.{BadWords}
 use Rattle.fxfs.specs.declared.command.TheConstants.{MIN_RING, MAX_RING, MOST_DIGITS}
 
 -- 1 to 20 digits, and nothing else
@@ -40,8 +40,7 @@ abbrev pub command_of : List (List ℕ) → Option Command
 command_of [] = None
 command_of (word ∷ options) = if bytes_eq word (codes "shell") then shell_of options else if bytes_eq word (codes "mkfs") then mkfs_of options else None
 
--- the words were read so, or memory ran out
+-- the words were read so
 abbrev pub IsCommandOf : Result Command WordsFault → List (List ℕ) → Type 0
 IsCommandOf (Ok command) words = command_of words ≡ Some command
 IsCommandOf (Err BadWords) words = command_of words ≡ None
-IsCommandOf (Err OutOfMemory) words = Unit {0}

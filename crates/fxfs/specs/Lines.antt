@@ -1,5 +1,5 @@
 -- The lines of a source, and what is done with them.
-use Rattle.std.specs.Prelude.{◌≡◌, ◌⊎◌, ℕ, ◌<◌, ◌≤◌, ◌+◌, ◌++◌, Bool, true, false, All, List, Option, Some, Ok, Err, length, slice_get}
+use Rattle.std.specs.Prelude.{◌≡◌, ◌⊎◌, ℕ, ◌<◌, ◌≤◌, ◌+◌, ◌++◌, Bool, true, false, All, List, Option, Some, Ok, Err, length, count_by, slice_get}
 use Rattle.std.specs.Io.KnownBytes.{IsAtEnd}
 use Rattle.std.specs.Option.{IfSome}
 use Rattle.fx_base.specs.Causes.{Rose}
@@ -7,12 +7,13 @@ use Rattle.fx_image.specs.Standing.{Transactions}
 use Rattle.fx_io.specs.Told.{Gives, GivesCount, GivesAtMost}
 use Rattle.fx_script.specs.declared.script.Task.{Task}
 use Rattle.fx_script.specs.declared.fault.LineFault.{LineFault}
-use Rattle.fx_script.specs.declared.script.ScriptFault.TheVariants as faults
 use Rattle.fx_script.specs.Script.{script_of}
 use Rattle.fx_history.specs.declared.entry.Entry.{Entry}
+use Rattle.fx_history.specs.declared.outcome.EndKind.{EndKind}
 use Rattle.fx_history.specs.declared.outcome.EndKind.TheVariants as ends
 use Rattle.fx_history.specs.Outcome.{LineEnd}
 use Rattle.fx_history.specs.History.{settle}
+use Rattle.fx_history.specs.Transcript.{is_fault}
 use Rattle.fx_history.specs.Text.{result_text}
 use Rattle.fx_mount.specs.Mounted.{KeepsWhole}
 use Rattle.fx_mount.specs.Calls.{IsFlushedBy, HasFailedLast}
@@ -38,7 +39,7 @@ IsScript before now = (tasks : List Task) × Spells before now tasks
 
 -- The first wrong line of the source's bytes has this number and this fault.
 abbrev pub IsBadInput : Option (List ℕ) → Option (List ℕ) → ℕ → LineFault → Type 0
-IsBadInput before now number fault = (bytes : List ℕ) × IsInput before now bytes × (script_of false bytes ≡ Err (faults.BadLine number fault))
+IsBadInput before now number fault = (bytes : List ℕ) × IsInput before now bytes × (script_of false bytes ≡ Err (record { number = number; fault = fault }))
 
 -- The source failed, within the bytes of a script.
 pub record IsUnread (before after : StreamSeen) : Type 0 where
@@ -77,6 +78,7 @@ pub record WasFlushed (from : ℕ) (txns : Transactions) (before after : DiskSee
   pub more : before.calls < after.calls
   pub flushed : IsFlushedBy after.calls after.calls after.told
   pub settles : new ≡ settle after.calls old
+  pub unfailed : after.faults ≡ before.faults
   pub whole : IfSome after.told (KeepsWhole after.size from txns base new)
 
 -- The disk failed, and nothing was settled: the call that was last asked for was not made, or is the last one
@@ -96,6 +98,7 @@ Syncs false from txns before after base old new = WasNotFlushed before after old
 pub record IsFlushed (from : ℕ) (txns : Transactions) (before after : DiskSeen) (base : ℕ) (history : List Entry) : Type 0 where
   pub more : before.calls < after.calls
   pub flushed : IsFlushedBy after.calls after.calls after.told
+  pub unfailed : after.faults ≡ before.faults
   pub settled : All (λ entry. 0 < entry.settled) history
   pub whole : IfSome after.told (KeepsWhole after.size from txns base history)
 
@@ -109,14 +112,32 @@ abbrev pub Flushes : Bool → ℕ → Transactions → DiskSeen → DiskSeen →
 Flushes true from txns before after base history = IsFlushed from txns before after base history
 Flushes false from txns before after base history = IsUnflushed before after
 
--- What was made was flushed by a last call, which, where the disk tells its calls, is a later one than those
--- of the mount and of each line `sync`.
+-- how many of the lines synced
+abbrev pub is_synced : EndKind → Bool
+is_synced ends.Committed = false
+is_synced (ends.Seen answer) = false
+is_synced (ends.Refused index refusal) = false
+is_synced (ends.Full full) = false
+is_synced (ends.Synced calls) = true
+is_synced (ends.DeviceFault count) = false
+is_synced ends.OutOfMemory = false
+
+abbrev pub synced_in : List LineEnd → ℕ
+synced_in outcomes = count_by (λ line. is_synced line.kind) outcomes
+
+-- how many of the lines ended at a fault of the disk
+abbrev pub faults_in : List LineEnd → ℕ
+faults_in outcomes = count_by (λ line. is_fault line.kind) outcomes
+
+-- What was made was flushed by a last call, a later one than those of the mount and of each line that synced:
+-- these made a call each at least, and it is one more. Where no line tells a fault of the disk there was none.
 pub record HasFlushedAfter (from : ℕ) (txns : Transactions) (before after : DiskSeen) (end : End) : Type 0 where
   pub flushed : IsFlushedBy after.calls after.calls after.told
   pub settled : All (λ entry. 0 < entry.settled) end.history
   pub whole : IfSome after.told (KeepsWhole after.size from txns end.base end.history)
-  pub more : IfSome after.told (λ r. before.calls < after.calls)
-  pub below : (i : ℕ) (line : LineEnd) (calls : ℕ) → slice_get end.outcomes i ≡ Some line → line.kind ≡ ends.Synced calls → IfSome after.told (λ r. calls < after.calls)
+  pub more : before.calls + synced_in end.outcomes < after.calls
+  pub unfailed : faults_in end.outcomes ≡ 0 → after.faults ≡ before.faults
+  pub below : (i : ℕ) (line : LineEnd) (calls : ℕ) → slice_get end.outcomes i ≡ Some line → line.kind ≡ ends.Synced calls → calls < after.calls
 
 -- The disk failed once more after all faults that lines tell.
 pub record HasFailedAfter (before after : DiskSeen) (outcomes : List LineEnd) : Type 0 where

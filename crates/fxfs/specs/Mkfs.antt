@@ -3,6 +3,7 @@ use Rattle.std.specs.Prelude.{◌≡◌, ℕ, ◌≤◌, ◌+◌}
 use Rattle.fx_base.specs.Causes.{Rose}
 use Rattle.fx_image.specs.Longer.{BothTell}
 use Rattle.fx_mount.specs.Formatted.{IsFormatted, HasRoomFor}
+use Rattle.fx_mount.specs.Calls.{HasFailedLast}
 use Rattle.fxfs.specs.declared.ended.Stop.{Stop}
 use Rattle.fxfs.specs.declared.ended.Stop.TheVariants as stops
 use Rattle.fxfs.specs.Stop.{mkfs_line}
@@ -20,10 +21,13 @@ pub record IsUnfit (ring : ℕ) (before after : DiskSeen) (told : ℕ) : Type 0 
   pub blocks : told ≡ before.size
   pub same : after ≡ before
 
--- The disk has room for the ring, and failed.
+-- The disk has room for the ring, and failed: the call that was last asked for was not made, or is the last
+-- one and failed.
 pub record HasFailed (ring : ℕ) (before after : DiskSeen) : Type 0 where
   pub room : HasRoomFor ring before.size
   pub rose : Rose before.faults after.faults
+  pub failed : HasFailedLast after.last_made after.told
+  pub calls : after.calls ≤ before.calls + ring + 4
 
 -- What was done, by why the command stopped.
 abbrev pub MkfsDid : ℕ → DiskSeen → DiskSeen → StreamSeen → StreamSeen → End → Stop → Type 0

@@ -58,10 +58,11 @@ pub record IsUntouched (before after : DiskSeen) : Type 0 where
   pub told : after.told ≡ before.told
   pub calls : after.calls ≡ before.calls
 
--- The disk has the size that it had and goes on telling, and its faults did not become fewer.
+-- The disk has the size that it had and goes on telling, and neither its calls nor its faults became fewer.
 pub record GoesOn (before after : DiskSeen) : Type 0 where
   pub size : after.size ≡ before.size
   pub extends : Extends before.told after.told
+  pub calls : before.calls ≤ after.calls
   pub faults : before.faults ≤ after.faults
 
 -- The command ended before any line was run, and told why.

@@ -1,5 +1,5 @@
 -- What `shell` does.
-use Rattle.std.specs.Prelude.{◌≡◌, ◌⊎◌, ℕ, ◌<◌, ◌≤◌, ◌+◌, ◌-◌, ◌^◌, min, All, List, [], Option, Some, count_by, slice_get}
+use Rattle.std.specs.Prelude.{◌≡◌, ◌≢◌, ◌⊎◌, ℕ, ◌<◌, ◌≤◌, ◌+◌, ◌-◌, ◌^◌, min, All, List, [], Option, Some, length, slice_get, sum_by}
 use Rattle.std.specs.Option.{IfSome}
 use Rattle.fx_disk.specs.Record.{DiskRecord, call_at}
 use Rattle.fx_disk.specs.Loose.{IsGoodFlush}
@@ -11,19 +11,20 @@ use Rattle.fx_io.specs.Told.{GivesAtMost}
 use Rattle.fx_plain.specs.Tree.{Tree}
 use Rattle.fx_journal.specs.declared.ring.Full.{Full}
 use Rattle.fx_script.specs.declared.script.Task.{Task}
+use Rattle.fx_history.specs.declared.entry.Entry.{Entry}
 use Rattle.fx_history.specs.declared.outcome.EndKind.TheVariants as ends
 use Rattle.fx_history.specs.Outcome.{LineEnd}
-use Rattle.fx_history.specs.Transcript.{Session, is_fault}
+use Rattle.fx_history.specs.Transcript.{Session}
 use Rattle.fx_mount.specs.declared.fault.MountFault.{MountFault}
 use Rattle.fx_mount.specs.declared.fault.MountFault.TheVariants as mounts
 use Rattle.fx_mount.specs.Found.{HasRing, IsMountedAt, IsRefused}
 use Rattle.fx_mount.specs.Mounted.{Opens}
-use Rattle.fx_mount.specs.Calls.{IsFlushedBy, HasFailedLast}
+use Rattle.fx_mount.specs.Calls.{IsFlushedBy, HasFailedLast, flushes}
 use Rattle.fxfs.specs.declared.ended.Stop.{Stop}
 use Rattle.fxfs.specs.declared.ended.Stop.TheVariants as stops
 use Rattle.fxfs.specs.declared.shell.TheConstants.{MAX_INPUT}
 use Rattle.fxfs.specs.Outside.{DiskSeen, Outside, End, IsStopped, IsUntouched, GoesOn}
-use Rattle.fxfs.specs.Lines.{Spells, IsScript, IsNoScript, Tells, TellsUnsynced}
+use Rattle.fxfs.specs.Lines.{Spells, IsScript, IsNoScript, Tells, TellsUnsynced, synced_in, faults_in}
 
 -- No line was run, and nothing was written to the disk. Every image left stands for the tree that it was.
 pub record HasNotRun (before after : Outside) (end : End) : Type 0 where
@@ -31,37 +32,62 @@ pub record HasNotRun (before after : Outside) (end : End) : Type 0 where
   pub untouched : IsUntouched before.disk after.disk
   pub prefix : (opening : Tree) (base : ℕ) → IfSome after.disk.told (KeepsPrefix after.disk.size before.disk.calls opening base [])
 
--- The source spells lines, and the disk was not mounted, for it failed in that. Every image left stands for
--- the tree that it was.
+-- The source spells lines, and the disk was not mounted, for it failed in that: a read failed and nothing was
+-- written, or the call that was last asked for was not made, or is the last one and failed. Every image left
+-- stands for the tree that it was.
 pub record HasNotMounted (before after : Outside) (end : End) : Type 0 where
   pub stopped : IsStopped before.sink after.sink end
   pub spelled : IsScript before.source.bytes after.source.bytes
   pub calls : after.disk.calls ≤ before.disk.calls + 2
+  pub failed : (after.disk.calls ≡ before.disk.calls) ⊎ HasFailedLast after.disk.last_made after.disk.told
   pub prefix : (opening : Tree) (base : ℕ) → IfSome after.disk.told (KeepsPrefix after.disk.size before.disk.calls opening base [])
 
 -- How many lines ended at a fault of the disk, and the counts that they tell: its count of faults rose as
--- often, unless it stands at its end.
+-- often, unless it stands at its end, and each of them tells that it rose since entry and since the one before.
 pub record AreFaults (before after : ℕ) (outcomes : List LineEnd) : Type 0 where
-  pub counted : min (before + count_by (λ o. is_fault o.kind) outcomes) (2 ^ 64 - 1) ≤ after
+  pub counted : min (before + faults_in outcomes) (2 ^ 64 - 1) ≤ after
   pub each : (i : ℕ) (end : LineEnd) (count : ℕ) → slice_get outcomes i ≡ Some end → end.kind ≡ ends.DeviceFault count → Rose before count × (count ≤ after)
+  pub rising : (i j : ℕ) (former latter : LineEnd) → i < j → slice_get outcomes i ≡ Some former → slice_get outcomes j ≡ Some latter
+      → (earlier later : ℕ) → former.kind ≡ ends.DeviceFault earlier → latter.kind ≡ ends.DeviceFault later → Rose earlier later
 
 -- A sync that was done once the disk had made the first calls, and before it had made more than the last:
 -- the last of so many calls is a flush that was good.
-pub record IsSync (first last calls : ℕ) (r : DiskRecord) : Type 0 where
+pub record IsSync (first last : ℕ) (told : Option DiskRecord) (calls : ℕ) : Type 0 where
   pub later : first < calls
   pub within : calls ≤ last
-  pub flushed : (place : ℕ) → calls ≡ place + 1 → IsGoodFlush (call_at r.calls place)
+  pub flushed : (place : ℕ) → calls ≡ place + 1 → IfSome told (λ r. IsGoodFlush (call_at r.calls place))
 
--- Each count of calls that a line `sync` tells is that of a sync, where the disk tells its calls.
-abbrev pub AreSyncs : ℕ → ℕ → Option DiskRecord → List LineEnd → Type 0
-AreSyncs first last told outcomes =
-    (i : ℕ) (end : LineEnd) (calls : ℕ) → slice_get outcomes i ≡ Some end → end.kind ≡ ends.Synced calls → IfSome told (IsSync first last calls)
+-- Each count of calls that a line `sync` tells is that of a sync, and a later one than those told before.
+pub record AreSyncs (first last : ℕ) (told : Option DiskRecord) (outcomes : List LineEnd) : Type 0 where
+  pub each : (i : ℕ) (end : LineEnd) (calls : ℕ) → slice_get outcomes i ≡ Some end → end.kind ≡ ends.Synced calls → IsSync first last told calls
+  pub rising : (i j : ℕ) (former latter : LineEnd) → i < j → slice_get outcomes i ≡ Some former → slice_get outcomes j ≡ Some latter
+      → (earlier later : ℕ) → former.kind ≡ ends.Synced earlier → latter.kind ≡ ends.Synced later → earlier < later
 
--- A line is full only where the ring's blocks are fewer than those of the image's stream, one for each
--- commit since, and three.
-abbrev pub AreFull : ℕ → ℕ → ℕ → List LineEnd → Type 0
-AreFull ring live base outcomes =
-    (i : ℕ) (end : LineEnd) (full : Full) → slice_get outcomes i ≡ Some end → end.kind ≡ ends.Full full → ring + base < live + end.at + 2
+-- how many of the lines are `sync`
+abbrev pub syncs_in : List Task → ℕ
+syncs_in tasks = sum_by (λ task. flushes task.line) tasks
+
+-- How many calls were made for the lines and at their end: at least a flush for each line that synced, and at
+-- most a write for each commit, a flush for each line `sync`, and one at the end. A call that fails is one of
+-- these: a block whose write failed is written again by a later sync, which ends where a call fails.
+pub record AreCalls (before after : ℕ) (tasks : List Task) (history : List Entry) (outcomes : List LineEnd) : Type 0 where
+  pub least : before + synced_in outcomes ≤ after
+  pub most : after ≤ before + length history + syncs_in tasks + 1
+
+-- A line that was full tells how many of the ring's blocks were live then: those of the image, and at most one
+-- for each commit since. They left no place for one more.
+pub record IsFullAt (ring live base at : ℕ) (full : Full) : Type 0 where
+  pub counts : full ≡ record { live = full.live; promised = 0; want = 1 }
+  pub least : live ≤ full.live
+  pub most : full.live + base ≤ live + at
+  pub no_place : ring < full.live + 2
+
+-- Each line that was full was so, and no later one commits. The image has so many live blocks: those of its
+-- stream, and the next.
+pub record AreFull (ring live base : ℕ) (outcomes : List LineEnd) : Type 0 where
+  pub each : (i : ℕ) (end : LineEnd) (full : Full) → slice_get outcomes i ≡ Some end → end.kind ≡ ends.Full full → IsFullAt ring live base end.at full
+  pub last : (i j : ℕ) (former latter : LineEnd) → i < j → slice_get outcomes i ≡ Some former → slice_get outcomes j ≡ Some latter
+      → (full : Full) → former.kind ≡ ends.Full full → latter.kind ≢ ends.Committed
 
 -- The lines that the source spells were run, one after another, on a disk that was mounted with these
 -- transactions, the last of which has the number `base`, from the tree on that they make. Every image left at
@@ -78,17 +104,20 @@ pub record HasRun (before after : Outside) (end : End) (tasks : List Task) : Typ
   pub prefix : IfSome after.disk.told (KeepsPrefix after.disk.size before.disk.calls opening end.base end.history)
   pub faults : AreFaults before.disk.faults after.disk.faults end.outcomes
   pub syncs : AreSyncs (before.disk.calls + 2) after.disk.calls after.disk.told end.outcomes
+  pub calls : AreCalls (before.disk.calls + 2) after.disk.calls tasks end.history end.outcomes
   pub full : IfSome before.disk.told (λ r. (ring live : ℕ) → HasRing r.contents ring live → AreFull ring live end.base end.outcomes)
 
 -- They were run, and what was made was flushed by the last call, so that every image left stands for the
--- tree after the whole history; and what was printed tells it. Where the disk tells its calls, that flush comes
--- after the two calls of the mount and after each that a line `sync` tells.
+-- tree after the whole history; and what was printed tells it. That flush comes after the two calls of the mount
+-- and after each that a line `sync` tells. No fault of the disk is passed over: where no line tells one, its count of
+-- faults is as it was.
 pub record HasSynced (before after : Outside) (end : End) : Type 0 where
   pub tasks : List Task
   pub ran : HasRun before after end tasks
   pub flushed : IsFlushedBy after.disk.calls after.disk.calls after.disk.told
-  pub more : IfSome after.disk.told (λ r. before.disk.calls + 3 ≤ after.disk.calls)
-  pub below : (i : ℕ) (line : LineEnd) (calls : ℕ) → slice_get end.outcomes i ≡ Some line → line.kind ≡ ends.Synced calls → IfSome after.disk.told (λ r. calls < after.disk.calls)
+  pub more : before.disk.calls + 2 + synced_in end.outcomes < after.disk.calls
+  pub below : (i : ℕ) (line : LineEnd) (calls : ℕ) → slice_get end.outcomes i ≡ Some line → line.kind ≡ ends.Synced calls → calls < after.disk.calls
+  pub unfailed : faults_in end.outcomes ≡ 0 → after.disk.faults ≡ before.disk.faults
   pub settled : All (λ entry. 0 < entry.settled) end.history
   pub whole : IfSome after.disk.told (KeepsAll after.disk.size before.disk.calls ran.opening end.base end.history)
   pub tells : Tells before.sink after.sink tasks end.outcomes end.stop

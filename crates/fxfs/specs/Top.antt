@@ -13,11 +13,6 @@ pub record IsRefused (before after : Outside) (end : End) : Type 0 where
   pub disk : after.disk ≡ before.disk
   pub source : after.source ≡ before.source
 
--- There was no memory to read the words.
-pub record IsStarved (before after : Outside) (end : End) : Type 0 where
-  pub stop : end.stop ≡ stops.OutOfMemory
-  pub refused : IsRefused before after end
-
 -- The words are no command.
 pub record IsNoCommand (before after : Outside) (end : End) : Type 0 where
   pub stop : end.stop ≡ stops.BadWords

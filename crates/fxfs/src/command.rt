@@ -32,13 +32,10 @@ pub enum WordsFault {
     /// They are no command.
     #[error("no such command")]
     BadWords,
-    /// No memory was to be had.
-    #[error("out of memory")]
-    OutOfMemory,
 }
 
 /// The command that the words are: `shell` alone, or `mkfs`, with `--journal N` or `--journal=N` once
-/// or not at all. N has 1 to 20 digits.
+/// or not at all. N has 1 to 20 digits. Takes no memory.
 pub fn command_of(words: &[String]) -> Result<Command, WordsFault>
     ensures { IsCommandOf result (map string_bytes words.now) }
 {

@@ -1,10 +1,10 @@
 //! The top call.
-ghost use Rattle.std.specs.Prelude.{◌≡◌, ◌⊎◌, map};
+ghost use Rattle.std.specs.Prelude.{◌≡◌, map};
 ghost use Rattle.std.specs.String.{string_bytes};
 ghost use Rattle.fxfs.specs.Command.{command_of};
 ghost use Rattle.fxfs.specs.Stop.{status_of};
 ghost use Rattle.fxfs.specs.Outside.{Outside, End};
-ghost use Rattle.fxfs.specs.Top.{Does, IsStarved};
+ghost use Rattle.fxfs.specs.Top.{Does};
 
 use crate::command::{Command, WordsFault, command_of};
 use crate::ended::{Ended, Stop};
@@ -24,7 +24,7 @@ pub fn fxfs_top<D: Disk, S: Source, K: Sink>(
 ) -> Ended<D>
     ensures status { result.status ≡ status_of result.stop }
 
-    // What the command does by its own call, unless there was no memory to read the words.
+    // What the command does by its own call.
     ensures does { let before : Outside = record {
       disk = record { size = D.size disk; told = D.told disk; calls = D.calls disk; faults = D.faults disk; last_made = D.last_made disk };
       source = record { bytes = S.left src.old; faults = S.fault_count src.old };
@@ -36,7 +36,7 @@ pub fn fxfs_top<D: Disk, S: Source, K: Sink>(
           sink = record { bytes = K.text out.new; faults = K.fault_count out.new };
         } in
         let end : End = record { stop = result.stop; base = result.base; history = result.history; outcomes = result.outcomes } in
-        Does (command_of (map string_bytes words.now)) before after end ⊎ IsStarved before after end }
+        Does (command_of (map string_bytes words.now)) before after end }
 
     // Status 2: the disk and the source were not touched.
     ensures unread { result.status ≡ 2 → src.new ≡ src.old }
@@ -46,6 +46,5 @@ pub fn fxfs_top<D: Disk, S: Source, K: Sink>(
         Ok(Command::Shell) => shell_call(alloc, disk, src, out),
         Ok(Command::Mkfs(ring)) => mkfs_call(alloc, ring, disk, out),
         Err(WordsFault::BadWords) => stopped(alloc, disk, out, Stop::BadWords),
-        Err(WordsFault::OutOfMemory) => stopped(alloc, disk, out, Stop::OutOfMemory),
     }
 }

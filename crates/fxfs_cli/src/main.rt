@@ -7,7 +7,7 @@ use fx_io::{Sink, Source, StdSink, StdSource};
 use fx_mount::mkfs;
 use fxfs::{ImageWord, MIN_RING, fxfs_top, image_of};
 use std::alloc::{AllocError, Global};
-use std::fs::File;
+use std::fs::{File, OpenOptions};
 use std::io::ErrorKind;
 use std::process::ExitCode;
 use std::rt::{Env, Files};
@@ -48,7 +48,15 @@ enum Opened {
     File(FileDisk),
 }
 
+/// A device that gives and takes nothing, open for reading.
+fn nothing<R: Files<File = File>>(rt: &R) -> io::Result<File> {
+    OpenOptions::new().read(true).open(rt, "/dev/null")
+}
+
 fn main(rt: HostRuntime) -> ExitCode {
+    // Standard streams that are closed leave their numbers free, and a file that is opened takes the least free one.
+    // So that the image is never written to as standard output, these are taken first.
+    let _held = (nothing(&rt), nothing(&rt), nothing(&rt));
     let words = match words_of(&rt) {
         Ok(words) => words,
         Err(refusal) => return refused(&rt, refusal),

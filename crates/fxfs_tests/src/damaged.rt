@@ -1,13 +1,9 @@
 //! Images whose journal holds what no session writes.
 use crate::images::with_journal;
-use crate::runs::{Run, expect, told_on};
+use crate::rows::{expect_count, expect_same, halves, number_of};
+use crate::runs::{summary, told_on};
 use std::alloc::{AllocError, Global};
-use std::test::Fail;
-
-/// The number that the word is, or 0.
-fn number_of(word: &str) -> u64 {
-    word.parse::<u64>().unwrap_or(0)
-}
+use std::process::Abort;
 
 /// Appends the number in so many bytes, the lowest first.
 fn push_number(bytes: &mut Vec<u8>, number: u64, count: usize) -> Result<(), AllocError> {
@@ -19,7 +15,7 @@ fn push_number(bytes: &mut Vec<u8>, number: u64, count: usize) -> Result<(), All
 
 /// Appends a node, `STORE.ID`.
 fn push_node(bytes: &mut Vec<u8>, node: &str) -> Result<(), AllocError> {
-    let (store, id) = node.split_once('.').unwrap_or((node, ""));
+    let (store, id) = halves(node, ".");
     push_number(bytes, number_of(store), 4)?;
     push_number(bytes, number_of(id), 8)
 }
@@ -101,13 +97,11 @@ fn records_of(alloc: Global, text: &str) -> Result<Vec<u8>, AllocError> {
     Ok(bytes)
 }
 
-/// Runs `list /` on an image whose journal holds these records, or none where they fill no block.
-fn listed(alloc: Global, records: &str) -> Result<Option<Run>, AllocError> {
+/// How `list /` ends on an image whose journal holds these records. It fails where they fill no block.
+fn listed(alloc: Global, records: &str) -> Result<String, AllocError> {
     let bytes = records_of(alloc, records)?;
-    let Some(disk) = with_journal(alloc, &bytes)? else {
-        return Ok(None);
-    };
-    Ok(Some(told_on(alloc, disk, b"list /\n")?))
+    let run = told_on(alloc, with_journal(alloc, &bytes)?, b"list /\n")?;
+    summary(alloc, &run)
 }
 
 /// What a journal's one block holds, and how `list /` ends on the image: the status, the calls of the disk and the
@@ -138,15 +132,19 @@ empty => 3 0 stop 3 badrecord 0~
 1: 0.0 v 1.0, 1.0 dir; 2: 1.0 gone => 3 0 stop 3 badtree 1 0~
 ";
 
+/// Asserts what is told of a row.
+fn expect_listed(rt: &(impl Abort + AllocGlobal), row: &str) -> Result<(), AllocError> {
+    let (records, wanted) = halves(row, " => ");
+    let told = listed(rt.alloc(), records)?;
+    expect_same(rt, told.as_str(), wanted, records);
+    Ok(())
+}
+
 #[test]
-fn journals_and_what_is_told(rt: HostRuntime) -> Result<(), Fail> {
-    let mut count = 0u64;
+fn journals_and_what_is_told(rt: HostRuntime) -> Result<(), AllocError> {
     for row in JOURNALS.lines() {
-        let (records, wanted) = row.split_once(" => ").ok_or("a row without an arrow")?;
-        let run = listed(rt.alloc(), records)?.ok_or("records that fill no block")?;
-        expect(&rt, &run, wanted)?;
-        count = count.saturating_add(1);
+        expect_listed(&rt, row)?;
     }
-    assert_eq!(rt; count, 23);
+    expect_count(&rt, JOURNALS, 23);
     Ok(())
 }

@@ -1,8 +1,7 @@
 //! A journal's ring that becomes full.
-use crate::images::formatted;
-use crate::runs::{Run, expect, left_by, told_on};
+use crate::runs::{Run, expect, expect_behind, told_fresh};
 use std::alloc::{AllocError, Global};
-use std::test::Fail;
+use std::process::Abort;
 
 /// How many blocks a fresh ring of 256 takes.
 const TAKEN: u64 = 254;
@@ -37,26 +36,29 @@ fn filling_told(alloc: Global, behind: &str) -> Result<String, AllocError> {
     Ok(told)
 }
 
+/// What is told of the lines behind those that fill the ring, and after a mount.
+const BEHIND: &str =
+    "1 509 err 254 0 full~1 510 err 254 1 exists~1 511 stat 254 dir 253 0~1 512 err 254 0 full~1 513 read 254 0~1 514 synced 254 511~1 515 err 254 0 full~";
+
+const AGAIN: &str =
+    "0 4 1 1 err 254 0 full~1 2 err 254 1 exists~1 3 stat 254 dir 253 0~1 4 err 254 0 full~1 5 read 254 0~1 6 synced 254 3~1 7 err 254 0 full~";
+
 /// Fills the ring, and then does the lines.
 fn filled(alloc: Global) -> Result<Run, AllocError> {
     let script = filling_script(alloc)?;
-    told_on(alloc, formatted(alloc)?, script.as_bytes())
+    told_fresh(alloc, script.as_bytes())
+}
+
+/// Asserts what is told of a run that fills the ring.
+fn expect_filled(rt: &(impl Abort + AllocGlobal), run: &Run) -> Result<(), AllocError> {
+    let wanted = filling_told(rt.alloc(), BEHIND)?;
+    expect(rt, run, wanted.as_str())
 }
 
 #[test]
-fn a_full_ring_takes_no_commits(rt: HostRuntime) -> Result<(), Fail> {
-    let alloc = rt.alloc();
-    let run = filled(alloc)?;
-    let wanted = filling_told(
-        alloc,
-        "1 509 err 254 0 full~1 510 err 254 1 exists~1 511 stat 254 dir 253 0~1 512 err 254 0 full~1 513 read 254 0~1 514 synced 254 511~1 515 err 254 0 full~",
-    )?;
-    expect(&rt, &run, wanted.as_str())?;
-    let again = told_on(alloc, left_by(alloc, &run.ended.disk)?, LINES.as_bytes())?;
-    expect(
-        &rt,
-        &again,
-        "0 4 1 1 err 254 0 full~1 2 err 254 1 exists~1 3 stat 254 dir 253 0~1 4 err 254 0 full~1 5 read 254 0~1 6 synced 254 3~1 7 err 254 0 full~",
-    )?;
+fn a_full_ring_takes_no_commits(rt: HostRuntime) -> Result<(), AllocError> {
+    let run = filled(rt.alloc())?;
+    expect_filled(&rt, &run)?;
+    expect_behind(&rt, &run, LINES.as_bytes(), AGAIN)?;
     Ok(())
 }

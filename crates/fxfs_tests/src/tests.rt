@@ -1,9 +1,10 @@
 //! Scripts, and what the top call makes of them. Each end of the script is in memory, and so is the disk.
-use crate::images::{disk_of, formatted};
-use crate::runs::{Run, expect, fails_of, left_at, lines_of, told, told_on};
+use crate::images::{disk_of, formatted, left_at};
+use crate::rows::{expect_count, expect_same, halves, lines_of};
+use crate::runs::{NONE, Run, fails_of, summary, told, told_fresh, told_on};
 use fx_disks::{Loose, MemDisk, Pick};
 use std::alloc::{AllocError, Global};
-use std::test::Fail;
+use std::process::Abort;
 
 /// Scripts on a formatted disk, and how they end: the status, the calls of the disk and the output. A `~` stands for a
 /// line feed.
@@ -23,27 +24,29 @@ mkdir /v~mkdir /v/b~create /v/a%20b~create /v/a~list /v~stat /v~stat /v/a~ => 0 
 mkdir /w~mkdir /v~mkdir /v%C3%A9~mkdir /v/x~list /~stat /~ => 0 4 1 1 ok 1~1 2 ok 2~1 3 ok 3~1 4 ok 4~1 5 list 4 3 v v%C3%A9 w~1 6 stat 4 dir 3 0~
 ";
 
-#[test]
-fn scripts_and_their_results(rt: HostRuntime) -> Result<(), Fail> {
-    let alloc = rt.alloc();
-    let mut count = 0u64;
-    for row in SCRIPTS.lines() {
-        let (script, wanted) = row.split_once(" => ").ok_or("a row without an arrow")?;
-        let script = lines_of(alloc, script)?;
-        for piece in [1, 3, 4096] {
-            let run = told(
-                alloc,
-                formatted(alloc)?,
-                "shell",
-                &script,
-                piece,
-                fails_of(""),
-            )?;
-            expect(&rt, &run, wanted)?;
-        }
-        count = count.saturating_add(1);
+/// How the script ends on a formatted disk, with ends that move so many bytes a call.
+fn ends_by(alloc: Global, script: &str, piece: u32) -> Result<String, AllocError> {
+    let script = lines_of(alloc, script)?;
+    let run = told(alloc, formatted(alloc)?, "shell", &script, piece, NONE)?;
+    summary(alloc, &run)
+}
+
+/// Asserts how a script ends, whatever its ends move in a call.
+fn expect_script(rt: &(impl Abort + AllocGlobal), row: &str) -> Result<(), AllocError> {
+    let (script, wanted) = halves(row, " => ");
+    for piece in [1, 3, 4096] {
+        let told = ends_by(rt.alloc(), script, piece)?;
+        expect_same(rt, told.as_str(), wanted, script);
     }
-    assert_eq!(rt; count, 13);
+    Ok(())
+}
+
+#[test]
+fn scripts_and_their_results(rt: HostRuntime) -> Result<(), AllocError> {
+    for row in SCRIPTS.lines() {
+        expect_script(&rt, row)?;
+    }
+    expect_count(&rt, SCRIPTS, 13);
     Ok(())
 }
 
@@ -86,46 +89,59 @@ stat /v/f/x/y => notdir
 stat /v/x => notfound
 ";
 
-/// Runs the line behind the three that make its tree, and before one more.
-fn told_between(alloc: Global, line: &str) -> Result<Run, AllocError> {
+/// How the line ends behind the three that make its tree, and before one more.
+fn ends_between(alloc: Global, line: &str) -> Result<String, AllocError> {
     let script = format!(in alloc; "mkdir /v\nmkdir /v/d\ncreate /v/f\n{line}\ncreate /v/g\n")?;
-    told_on(alloc, formatted(alloc)?, script.as_bytes())
+    let run = told_fresh(alloc, script.as_bytes())?;
+    summary(alloc, &run)
 }
 
-#[test]
-fn refusals_in_their_order(rt: HostRuntime) -> Result<(), Fail> {
-    let alloc = rt.alloc();
-    let mut count = 0u64;
-    for row in REFUSALS.lines() {
-        let (line, word) = row.split_once(" => ").ok_or("a row without an arrow")?;
-        let run = told_between(alloc, line)?;
-        let wanted = format!(in alloc;
-            "0 4 1 1 ok 1~1 2 ok 2~1 3 ok 3~1 4 err 3 1 {word}~1 5 ok 4~"
-        )?;
-        expect(&rt, &run, wanted.as_str())?;
-        count = count.saturating_add(1);
-    }
-    assert_eq!(rt; count, 35);
+/// What is told where it is refused with this word.
+fn refusal_told(alloc: Global, word: &str) -> Result<String, AllocError> {
+    format!(in alloc; "0 4 1 1 ok 1~1 2 ok 2~1 3 ok 3~1 4 err 3 1 {word}~1 5 ok 4~")
+}
+
+/// Asserts how a line is refused.
+fn expect_refusal(rt: &(impl Abort + AllocGlobal), row: &str) -> Result<(), AllocError> {
+    let (line, word) = halves(row, " => ");
+    let told = ends_between(rt.alloc(), line)?;
+    let wanted = refusal_told(rt.alloc(), word)?;
+    expect_same(rt, told.as_str(), wanted.as_str(), line);
     Ok(())
 }
 
-/// Runs a case of a table, `DISK | WORDS | SCRIPT | FAILS`, with pieces of 8 bytes.
-fn told_case(alloc: Global, case: &str) -> Result<Option<Run>, AllocError> {
-    let Some((disk, case)) = case.split_once('|') else {
-        return Ok(None);
-    };
-    let Some((words, case)) = case.split_once('|') else {
-        return Ok(None);
-    };
-    let Some((script, fails)) = case.split_once('|') else {
-        return Ok(None);
-    };
-    let Some(disk) = disk_of(alloc, disk.trim())? else {
-        return Ok(None);
-    };
+#[test]
+fn refusals_in_their_order(rt: HostRuntime) -> Result<(), AllocError> {
+    for row in REFUSALS.lines() {
+        expect_refusal(&rt, row)?;
+    }
+    expect_count(&rt, REFUSALS, 35);
+    Ok(())
+}
+
+/// Runs the words on the disk of this name, with pieces of 8 bytes, over `SCRIPT | FAILS`.
+fn told_case(alloc: Global, disk: &str, words: &str, rest: &str) -> Result<Run, AllocError> {
+    let (script, fails) = halves(rest, "|");
+    let disk = disk_of(alloc, disk.trim())?;
     let script = lines_of(alloc, script.trim())?;
     let fails = fails_of(fails.trim());
-    Ok(Some(told(alloc, disk, words.trim(), &script, 8, fails)?))
+    told(alloc, disk, words.trim(), &script, 8, fails)
+}
+
+/// How a case of a table ends, `DISK | WORDS | SCRIPT | FAILS`.
+fn case_ends(alloc: Global, case: &str) -> Result<String, AllocError> {
+    let (disk, case) = halves(case, "|");
+    let (words, rest) = halves(case, "|");
+    let run = told_case(alloc, disk, words, rest)?;
+    summary(alloc, &run)
+}
+
+/// Asserts how a case ends.
+fn expect_case(rt: &(impl Abort + AllocGlobal), row: &str) -> Result<(), AllocError> {
+    let (case, wanted) = halves(row, " => ");
+    let told = case_ends(rt.alloc(), case)?;
+    expect_same(rt, told.as_str(), wanted, case);
+    Ok(())
 }
 
 /// Each row is a case, and then the status, the number of device calls and the output. A `~` stands for a
@@ -188,64 +204,112 @@ blank 1088 | mkfs | | sink 2 => 6 260 mkfs 108
 ";
 
 #[test]
-fn causes_and_their_statuses(rt: HostRuntime) -> Result<(), Fail> {
-    let mut count = 0u64;
+fn causes_and_their_statuses(rt: HostRuntime) -> Result<(), AllocError> {
     for row in CASES.lines() {
-        let (case, wanted) = row.split_once(" => ").ok_or("a row without an arrow")?;
-        let run = told_case(rt.alloc(), case)?.ok_or("a case of another form")?;
-        expect(&rt, &run, wanted)?;
-        count = count.saturating_add(1);
+        expect_case(&rt, row)?;
     }
-    assert_eq!(rt; count, 54);
+    expect_count(&rt, CASES, 54);
     Ok(())
 }
 
-/// The status of a shell on the image that a stop of the disk at this moment leaves.
+/// The status of a shell on the disk.
+fn status_on(alloc: Global, disk: MemDisk) -> Result<u8, AllocError> {
+    let run = told_on(alloc, disk, b"")?;
+    Ok(run.ended.status)
+}
+
+/// The status of a shell on the image that a stop of the disk at this moment leaves, if it leaves one.
 fn status_after(
-    disk: &MemDisk,
     alloc: Global,
+    disk: &MemDisk,
     moment: u64,
     pick: Pick,
 ) -> Result<Option<u8>, AllocError> {
-    let Some(again) = left_at(alloc, disk, moment, &[pick])? else {
-        return Ok(None);
-    };
-    Ok(Some(told_on(alloc, again, b"")?.ended.status))
+    match left_at(alloc, disk, moment, &[pick])? {
+        Some(again) => Ok(Some(status_on(alloc, again)?)),
+        None => Ok(None),
+    }
 }
 
-// Calls 1 to 257 write zeros, call 258 is a flush, call 259 writes block 0 and call 260 is a flush.
-#[test]
-fn a_stop_within_mkfs_leaves_no_superblock_or_the_first(rt: HostRuntime) -> Result<(), Fail> {
-    let alloc = rt.alloc();
+/// Asserts that status, or that no such image is left.
+fn expect_status(
+    rt: &(impl Abort + AllocGlobal),
+    disk: &MemDisk,
+    moment: u64,
+    pick: Pick,
+    status: Option<u8>,
+) -> Result<(), AllocError> {
+    let got = status_after(rt.alloc(), disk, moment, pick)?;
+    assert_eq!(rt; got, status, "{moment} {pick:?}");
+    Ok(())
+}
+
+/// What may be left in a loose block that the call with this number wrote.
+fn kinds(call: u64) -> [Loose; 4] {
+    [
+        Loose::Settled,
+        Loose::Written(call),
+        Loose::Half(call),
+        Loose::Zeros,
+    ]
+}
+
+/// The disk after `mkfs`.
+fn formatted_now(alloc: Global) -> Result<MemDisk, AllocError> {
     let blank = MemDisk::new(alloc, 1_088)?;
-    let disk = told(alloc, blank, "mkfs", b"", 4096, fails_of(""))?
-        .ended
-        .disk;
+    let run = told(alloc, blank, "mkfs", b"", 4096, NONE)?;
+    Ok(run.ended.disk)
+}
+
+/// Asserts that there is no superblock where a stop leaves this block, which the call of its number writes.
+fn expect_none_within(
+    rt: &(impl Abort + AllocGlobal),
+    disk: &MemDisk,
+    block: u32,
+) -> Result<(), AllocError> {
+    let call = u64::from(block);
+    for loose in kinds(call) {
+        expect_status(
+            rt,
+            disk,
+            call.saturating_sub(1),
+            Pick { block, loose },
+            Some(3),
+        )?;
+    }
+    Ok(())
+}
+
+// Calls 1 to 257 write zeros, each to the block of its number, and call 258 is a flush.
+#[test]
+fn a_stop_before_the_superblock_leaves_none(rt: HostRuntime) -> Result<(), AllocError> {
+    let disk = formatted_now(rt.alloc())?;
     for block in 1..258u32 {
-        let call = u64::from(block);
-        for loose in [
-            Loose::Settled,
-            Loose::Written(call),
-            Loose::Half(call),
-            Loose::Zeros,
-        ] {
-            let status = status_after(&disk, alloc, call - 1, Pick { block, loose })?;
-            assert_eq!(rt; status, Some(3), "{block}");
-        }
+        expect_none_within(&rt, &disk, block)?;
     }
-    for (loose, status) in [
-        (Loose::Settled, 3),
-        (Loose::Written(259), 0),
-        (Loose::Half(259), 3),
-        (Loose::Zeros, 3),
-    ] {
-        for moment in [258, 259] {
-            let got = status_after(&disk, alloc, moment, Pick { block: 0, loose })?;
-            assert_eq!(rt; got, Some(status), "{moment}");
-        }
-        let done = status_after(&disk, alloc, 260, Pick { block: 0, loose })?;
-        assert_eq!(rt; done, None);
-    }
+    Ok(())
+}
+
+/// Asserts the status where a stop leaves block 0 so, which call 259 writes and call 260 flushes.
+fn expect_at_superblock(
+    rt: &(impl Abort + AllocGlobal),
+    disk: &MemDisk,
+    loose: Loose,
+    status: u8,
+) -> Result<(), AllocError> {
+    let pick = Pick { block: 0, loose };
+    expect_status(rt, disk, 258, pick, Some(status))?;
+    expect_status(rt, disk, 259, pick, Some(status))?;
+    expect_status(rt, disk, 260, pick, None)
+}
+
+#[test]
+fn a_stop_at_the_superblock_leaves_none_or_the_first(rt: HostRuntime) -> Result<(), AllocError> {
+    let disk = formatted_now(rt.alloc())?;
+    expect_at_superblock(&rt, &disk, Loose::Settled, 3)?;
+    expect_at_superblock(&rt, &disk, Loose::Written(259), 0)?;
+    expect_at_superblock(&rt, &disk, Loose::Half(259), 3)?;
+    expect_at_superblock(&rt, &disk, Loose::Zeros, 3)?;
     Ok(())
 }
 
@@ -271,21 +335,28 @@ fn deep_told(alloc: Global, count: u64) -> Result<String, AllocError> {
     Ok(told)
 }
 
-/// Runs the lines to a path of so many names.
-fn told_deep(alloc: Global, count: u64) -> Result<Run, AllocError> {
+/// How the lines to a path of so many names end.
+fn deep_ends(alloc: Global, count: u64) -> Result<String, AllocError> {
     let script = deep_script(alloc, count)?;
-    told_on(alloc, formatted(alloc)?, script.as_bytes())
+    let run = told_fresh(alloc, script.as_bytes())?;
+    summary(alloc, &run)
+}
+
+/// Asserts how they end.
+fn expect_deep(
+    rt: &(impl Abort + AllocGlobal),
+    count: u64,
+    wanted: &str,
+) -> Result<(), AllocError> {
+    let told = deep_ends(rt.alloc(), count)?;
+    expect_same(rt, told.as_str(), wanted, "deep");
+    Ok(())
 }
 
 #[test]
-fn paths_of_64_names(rt: HostRuntime) -> Result<(), Fail> {
-    let alloc = rt.alloc();
-    let wanted = deep_told(alloc, 64)?;
-    expect(&rt, &told_deep(alloc, 64)?, wanted.as_str())?;
-    expect(
-        &rt,
-        &told_deep(alloc, 65)?,
-        "8 0 stop 8 badline 65 badpath~",
-    )?;
+fn paths_of_64_names(rt: HostRuntime) -> Result<(), AllocError> {
+    let wanted = deep_told(rt.alloc(), 64)?;
+    expect_deep(&rt, 64, wanted.as_str())?;
+    expect_deep(&rt, 65, "8 0 stop 8 badline 65 badpath~")?;
     Ok(())
 }

@@ -40,8 +40,7 @@ returns-clause-finishes g c =
     subst (λ (n : ℕ). Flushes flushed c.args.store.from c.args.store.txns mid after n close.history) (sym c.close-is_flushed.ensures.base) as_txns in
     let tells : TellsEnd flushed sink_before sink_after c.args.tasks.now end.outcomes stop =
     subst (λ (os : List LineEnd). TellsEnd flushed sink_before sink_after c.args.tasks.now os stop) c.as_slice.ensures c.tell_end-stop.ensures.tells in
-    finishes c.args.store.from c.args.store.txns start mid after sink_before sink_after c.args.tasks.now end run.faults run.told
-    (g.met.D.Disk.told_ok c.args.store.disk) (g.met.D.Disk.told_ok c.run-outcomes.new.store.disk) run.extends c.close-is_flushed.ensures.extends run.synced flushed stop flushes tells
+    finishes c.args.store.from c.args.store.txns start mid after sink_before sink_after c.args.tasks.now end run.faults run.told run.unfailed run.least run.synced flushed stop flushes tells
 
 pub returns-clause-told : goal.returns-clause-told
 returns-clause-told g c =
@@ -54,6 +53,15 @@ returns-clause-extends g c =
 
 pub returns-clause-synced : goal.returns-clause-synced
 returns-clause-synced g c =
-    syncs_later (g.D.Disk.size c.run-outcomes.new.store.disk) (g.D.Disk.calls c.run-outcomes.new.store.disk) (g.D.Disk.size c.close-is_flushed.result.disk) (g.D.Disk.calls c.close-is_flushed.result.disk) (g.D.Disk.calls c.args.store.disk)
-    (g.D.Disk.told c.run-outcomes.new.store.disk) (g.D.Disk.told c.close-is_flushed.result.disk) (g.met.D.Disk.told_ok c.run-outcomes.new.store.disk) (g.met.D.Disk.told_ok c.close-is_flushed.result.disk)
-    c.close-is_flushed.ensures.extends c.run-outcomes.result c.run-outcomes.ensures.synced
+    syncs_later (g.D.Disk.size c.run-outcomes.new.store.disk) (g.D.Disk.calls c.args.store.disk) (g.D.Disk.calls c.run-outcomes.new.store.disk) (g.D.Disk.calls c.close-is_flushed.result.disk)
+    (g.D.Disk.told c.run-outcomes.new.store.disk) (g.D.Disk.told c.close-is_flushed.result.disk) (g.met.D.Disk.told_ok c.run-outcomes.new.store.disk)
+    c.close-is_flushed.ensures.extends c.close-is_flushed.ensures.grows c.run-outcomes.result c.run-outcomes.ensures.synced
+
+pub returns-clause-calls : goal.returns-clause-calls
+returns-clause-calls g c =
+    let run = c.run-outcomes.ensures in
+    let close = c.close-is_flushed.ensures in
+    record {
+      least = omega (arith, run.least, close.grows);
+      most = omega (arith, run.most, close.most, close.as_many, c.requires.none_waits);
+    }

@@ -1,24 +1,15 @@
-use Rattle.std.proofs.Common.{◌≡◌, sym, subst, ◌∙◌}
-use Rattle.std.specs.Prelude.{List, All, ◌<◌, ℕ}
+use Rattle.std.proofs.Common.{◌≡◌, sym, subst, ◌∙◌, arith}
+use Rattle.std.specs.Prelude.{List, ℕ}
 use Rattle.std.specs.Option.{IfSome}
 use Rattle.fx_script.specs.declared.script.Task.{Task}
-use Rattle.fx_script.specs.Print.{KeepsRules}
 use Rattle.fx_history.specs.Transcript.{Session}
 use Rattle.fx_mount.specs.Found.{IsMountedAt}
 use Rattle.fx_mount.specs.Mounted.{KeepsImages}
 use Rattle.fxfs.specs.Outside.{DiskSeen, StreamSeen, Outside, End}
-use Rattle.fxfs.specs.Lines.{Finishes, IsNoScript}
+use Rattle.fxfs.specs.Lines.{IsNoScript}
 use Rattle.fxfs.specs.Shell.{AreFull}
-use Rattle.fxfs.proofs.Clients.{script_client}
 use Rattle.fxfs.proofs.Ends.{Ran, shell_ends, Refused, refused_ends, unasked_ends}
 use Rattle.fxfs.proofs.shell.shell_call.Goals as goal
-
-pub finish-requires-clause-clients : goal.finish-requires-clause-clients
-finish-requires-clause-clients g c =
-    subst (λ (ts : List Task). All (λ task. 0 < task.client) ts) (sym c.as_slice-in-Ok-mount.ensures) (script_client c.in-Ok.ensures.ok.0 c.in-Ok.tasks c.in-Ok.ensures.ok.2)
-
-pub finish-requires-clause-rules : goal.finish-requires-clause-rules
-finish-requires-clause-rules g c = subst (λ (ts : List Task). All (λ task. KeepsRules task.line) ts) (sym c.as_slice-in-Ok-mount.ensures) c.in-Ok.ensures.rules
 
 pub returns-in-Ok-mount-clause-ends : goal.returns-in-Ok-mount-clause-ends
 returns-in-Ok-mount-clause-ends g c =
@@ -46,7 +37,6 @@ returns-in-Ok-mount-clause-ends g c =
     let end : End = record { stop = c.finish.result.stop; base = c.finish.result.base; history = c.finish.result.history; outcomes = c.finish.result.outcomes } in
     let store = c.in-Ok-mount.store in
     let tasks : List Task = c.in-Ok.tasks in
-    let here = c.as_slice-in-Ok-mount.ensures in
     let base_is = sym c.finish.ensures.base in
     let opens = c.in-Ok-mount.ensures.opens in
     let ran : Ran before after mounted store.from store.txns store.ring store.live end tasks = record {
@@ -58,15 +48,16 @@ returns-in-Ok-mount-clause-ends g c =
       );
       ring_is = c.in-Ok-mount.ensures.ring;
       mount_from = c.in-Ok-mount.ensures.from;
-      mount_disk = record { size = c.in-Ok-mount.ensures.size; extends = c.in-Ok-mount.ensures.extends; faults = c.in-Ok-mount.ensures.faults };
-      session = λ opening opens. subst (λ (ts : List Task). Session opening end.base end.history ts end.outcomes) here
-          (subst (λ (n : ℕ). Session opening n end.history c.as_slice-in-Ok-mount.result.now end.outcomes) base_is (c.finish.ensures.session opening opens));
+      mount_disk = record { size = c.in-Ok-mount.ensures.size; extends = c.in-Ok-mount.ensures.extends; calls = omega (arith, c.in-Ok-mount.ensures.two); faults = omega (arith, c.in-Ok-mount.ensures.unfailed) };
+      mount_unfailed = c.in-Ok-mount.ensures.unfailed;
+      session = λ opening opens. subst (λ (n : ℕ). Session opening n end.history tasks end.outcomes) base_is (c.finish.ensures.session opening opens);
       told = c.finish.ensures.told;
       mount_calls = c.in-Ok-mount.ensures.two;
       synced = c.finish.ensures.synced;
+      calls = c.finish.ensures.calls;
       full = λ opening opens. subst (λ (n : ℕ). AreFull store.ring store.live n end.outcomes) base_is (c.finish.ensures.full opening opens);
-      finishes = subst (λ (ts : List Task). Finishes store.from store.txns mounted disk_after sink_before sink_after ts end end.stop) here c.finish.ensures.finishes;
-      finish_disk = record { size = c.finish.ensures.size; extends = c.finish.ensures.extends; faults = c.finish.ensures.faults };
+      finishes = c.finish.ensures.finishes;
+      finish_disk = record { size = c.finish.ensures.size; extends = c.finish.ensures.extends; calls = omega (arith, c.finish.ensures.calls.least); faults = c.finish.ensures.faults };
       images = subst (λ (n : ℕ). IfSome disk_after.told (KeepsImages disk_after.size store.from store.txns n end.history)) base_is c.finish.ensures.images;
       settled = c.finish.ensures.settled;
       source = c.read_tasks.ensures.most;
@@ -98,7 +89,8 @@ returns-clause-ends g c =
       cause = c.in-Err-mount.ensures.cause;
       untouched = c.in-Err-mount.ensures.untouched;
       calls = c.in-Err-mount.ensures.err_calls;
-      disk = record { size = c.in-Err-mount.ensures.err_size; extends = c.in-Err-mount.ensures.err_extends; faults = c.in-Err-mount.ensures.err_faults };
+      last = c.in-Err-mount.ensures.last;
+      disk = record { size = c.in-Err-mount.ensures.err_size; extends = c.in-Err-mount.ensures.err_extends; calls = c.in-Err-mount.ensures.err_grows; faults = c.in-Err-mount.ensures.err_faults };
       images = c.in-Err-mount.ensures.err_images;
       prefix = c.in-Err-mount.ensures.err_prefix;
       source = c.read_tasks.ensures.most;

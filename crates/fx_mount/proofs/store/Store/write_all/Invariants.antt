@@ -5,6 +5,7 @@ use Rattle.fx_mount.proofs.store.Store.write_all.Given as goal
 abbrev pub invariant-loop-fault : goal.invariant-loop-fault
 invariant-loop-fault g l = record {
   count : g.D.Disk.calls l.self.disk + l.self.waiting ≡ g.D.Disk.calls l.fn.self.disk + l.fn.self.waiting;
+  grows : g.D.Disk.calls l.fn.self.disk ≤ g.D.Disk.calls l.self.disk;
   history : l.self.history ≡ l.fn.self.history;
   base : l.self.base ≡ l.fn.self.base;
   txns : l.self.txns ≡ l.fn.self.txns;
@@ -13,7 +14,7 @@ invariant-loop-fault g l = record {
   live : l.self.live ≡ l.fn.self.live;
   extends : Extends (g.D.Disk.told l.fn.self.disk) (g.D.Disk.told l.self.disk);
   size : g.D.Disk.size l.self.disk ≡ g.D.Disk.size l.fn.self.disk;
-  faults : g.D.Disk.faults l.fn.self.disk ≤ g.D.Disk.faults l.self.disk;
+  faults : g.D.Disk.faults l.self.disk ≡ g.D.Disk.faults l.fn.self.disk;
 }
 
 abbrev pub decreases-loop-fault : goal.decreases-loop-fault

@@ -8,7 +8,7 @@ use Rattle.fx_image.proofs.Going.{extends-write}
 use Rattle.fx_image.proofs.Mounted.{made-counts}
 use Rattle.fx_mount.specs.Mounted.{State}
 use Rattle.fx_mount.proofs.Stores.{store-padded, store-queue, store-written, store-tried}
-use Rattle.fx_mount.proofs.Writing.{not-both, wrote-block, wrote-nothing, some-unless, no-more, failed-last}
+use Rattle.fx_mount.proofs.Writing.{not-both, wrote-block, wrote-nothing, some-unless, no-more, no-fewer, failed-last}
 use Rattle.fx_mount.proofs.store.Store.write_one.Goals as goal
 
 pub invariant_of-self : goal.invariant_of-self
@@ -34,6 +34,13 @@ returns-in-Ok-Block-clause-most g c =
     let next : next_block c.pad-next.new.self 18446744073709551615 ≡ Some c.in-Ok-Block.field-0-0 = wrote-block _ c.in-Ok-Block.field-0-0 (rw c.in-Ok-Block.field-0-is at c.in-Ok-Block.ensures.answer) in
     let few : g.D.Disk.calls c.write_next.new.disk ≤ g.D.Disk.calls c.self.inside.disk + 1 = no-more _ _ _ _ _ _ (c.write_next.ensures.made c.in-Ok-Block.field-0-0 queue.0 next queue.1) in
     subst (λ (v : State g.row.D.Denot). g.D.Disk.calls c.write_next.new.disk ≤ g.D.Disk.calls v.disk + 1) c.self.view_is few
+
+pub returns-in-Ok-Block-clause-grows : goal.returns-in-Ok-Block-clause-grows
+returns-in-Ok-Block-clause-grows g c =
+    let queue = store-queue (g.D.Disk.size c.self.inside.disk) (g.D.Disk.calls c.self.inside.disk) (g.D.Disk.told c.self.inside.disk) c.self.inside.from c.self.inside.session c.pad-next.new.self c.pad-next.new.pool (store-padded (g.D.Disk.size c.self.inside.disk) (g.D.Disk.calls c.self.inside.disk) (g.D.Disk.told c.self.inside.disk) c.self.inside.from c.self.inside.session c.self.inside.ring c.self.inside.pool c.self.invariant c.pad-next.new.self c.pad-next.new.pool c.pad-next.ensures.padded c.pad-next.ensures.ring c.pad-next.ensures.buffers c.pad-next.ensures.out c.pad-next.ensures.others.order c.pad-next.ensures.queue) in
+    let next : next_block c.pad-next.new.self 18446744073709551615 ≡ Some c.in-Ok-Block.field-0-0 = wrote-block _ c.in-Ok-Block.field-0-0 (rw c.in-Ok-Block.field-0-is at c.in-Ok-Block.ensures.answer) in
+    let few : g.D.Disk.calls c.self.inside.disk ≤ g.D.Disk.calls c.write_next.new.disk = no-fewer _ _ _ _ _ _ (c.write_next.ensures.made c.in-Ok-Block.field-0-0 queue.0 next queue.1) in
+    subst (λ (v : State g.row.D.Denot). g.D.Disk.calls v.disk ≤ g.D.Disk.calls c.write_next.new.disk) c.self.view_is few
 
 pub returns-in-Ok-Block-clause-extends : goal.returns-in-Ok-Block-clause-extends
 returns-in-Ok-Block-clause-extends g c =
@@ -65,6 +72,13 @@ returns-in-Err-clause-most g c =
     let next = some-unless (next_block c.pad-next.new.self 18446744073709551615) (λ none. not-both c.write_next.result (wrote None) c.in-Err.fault (c.write_next.ensures.nothing none) c.in-Err.is) in
     let few : g.D.Disk.calls c.write_next.new.disk ≤ g.D.Disk.calls c.self.inside.disk + 1 = no-more _ _ _ _ _ _ (c.write_next.ensures.made next.0 queue.0 next.1 queue.1) in
     subst (λ (v : State g.row.D.Denot). g.D.Disk.calls c.write_next.new.disk ≤ g.D.Disk.calls v.disk + 1) c.self.view_is few
+
+pub returns-in-Err-clause-grows : goal.returns-in-Err-clause-grows
+returns-in-Err-clause-grows g c =
+    let queue = store-queue (g.D.Disk.size c.self.inside.disk) (g.D.Disk.calls c.self.inside.disk) (g.D.Disk.told c.self.inside.disk) c.self.inside.from c.self.inside.session c.pad-next.new.self c.pad-next.new.pool (store-padded (g.D.Disk.size c.self.inside.disk) (g.D.Disk.calls c.self.inside.disk) (g.D.Disk.told c.self.inside.disk) c.self.inside.from c.self.inside.session c.self.inside.ring c.self.inside.pool c.self.invariant c.pad-next.new.self c.pad-next.new.pool c.pad-next.ensures.padded c.pad-next.ensures.ring c.pad-next.ensures.buffers c.pad-next.ensures.out c.pad-next.ensures.others.order c.pad-next.ensures.queue) in
+    let next = some-unless (next_block c.pad-next.new.self 18446744073709551615) (λ none. not-both c.write_next.result (wrote None) c.in-Err.fault (c.write_next.ensures.nothing none) c.in-Err.is) in
+    let few : g.D.Disk.calls c.self.inside.disk ≤ g.D.Disk.calls c.write_next.new.disk = no-fewer _ _ _ _ _ _ (c.write_next.ensures.made next.0 queue.0 next.1 queue.1) in
+    subst (λ (v : State g.row.D.Denot). g.D.Disk.calls v.disk ≤ g.D.Disk.calls c.write_next.new.disk) c.self.view_is few
 
 pub returns-in-Err-clause-last : goal.returns-in-Err-clause-last
 returns-in-Err-clause-last g c =
