@@ -2,10 +2,18 @@
 a full sync at each commit, and bare calls on a file; how the time of a script and of a mount grows with the lines;
 and the greatest memory.
 
+What each side does: a file is an empty one of ext4, a row of a table with its path as key, and in the reads one with
+100 bytes. debugfs and sqlite3 read from an image that was filled before, the program from what the same session has
+written, since it keeps no contents yet. debugfs syncs at its end alone, so it is not among the syncs. "bare" is calls
+on a file by this script: the blocks that the journal fills and one data sync, a read of a block each, and a write of
+a block with a data sync each.
+
 There are five rounds, with each side in every round. The median of the times counts, and that of the ratios of
-each round. A time is that of the whole command, its start in it; but from that of the reads the time of the same
-script without them is taken off, and from that of a line the time of an empty script.
+each round. A time is that of the whole command, its start in it, which the first row tells; bare calls have no start.
+But from that of the reads the time of the same script without them is taken off, and from that of a line the time of
+an empty script.
 """
+import os
 import statistics
 import tempfile
 
@@ -44,6 +52,15 @@ def row(title, ours, others):
     print("  ".join(cells), flush=True)
 
 
+def starts(folder):
+    spent = rounds(folder, {
+        "fxfs": lambda f: sides.fxfs(f, []),
+        "debugfs": lambda f: sides.debugfs_creates(f, 0),
+        "sqlite3": lambda f: sides.sqlite_creates(f, 0),
+    })
+    row("no lines: a start, a mount, an end", seconds(spent.pop("fxfs")), spent)
+
+
 def creates(folder):
     spent = rounds(folder, {
         "fxfs": lambda f: sides.fxfs(f, sides.creates(COUNT)),
@@ -67,7 +84,7 @@ def reads(folder):
         "bare": lambda f: sides.bare_reads(f, COUNT),
     })
     start = statistics.median(seconds(spent.pop("before")))
-    row(f"{COUNT:,} reads of 100 bytes", [max(s - start, 0) for s in seconds(spent.pop("fxfs"))], spent)
+    row(f"{COUNT:,} reads of 100 bytes, no start", [max(s - start, 0) for s in seconds(spent.pop("fxfs"))], spent)
 
 
 def syncs(folder):
@@ -100,13 +117,20 @@ def growth(folder):
         print(told, flush=True)
 
 
+def load():
+    return f"{os.getloadavg()[0]:.1f} on {os.cpu_count()} processors"
+
+
 def main():
     sides.build()
+    print(f"fxfs, and how many times that of each other side it is; load of the machine: {load()}")
     with tempfile.TemporaryDirectory() as folder:
+        starts(folder)
         creates(folder)
         reads(folder)
         syncs(folder)
         growth(folder)
+    print(f"load of the machine at the end: {load()}")
 
 
 if __name__ == "__main__":

@@ -1,12 +1,13 @@
 """What it costs to make names, against what is there today, in one run.
 
-- 3,000 creates in one shell on an image in a file, against as many files of one byte that `debugfs -w -f` writes
-  into an ext4 image of the same size. The least time of five rounds counts for each.
+- 3,000 creates in one shell on an image in a file, against as many empty files that `debugfs -w -f` writes into
+  an ext4 image of the same size. The least time of five rounds counts for each.
 - 3,000 creates with a sync behind each, against as many writes of 4,096 bytes with a data sync behind each, on a
   file beside the image. A ring of 1,024 blocks takes fewer than 3,000, and what a sync costs changes from second to
   second on some devices; so each is done in twelve rounds of 250, in turns, on a fresh image. The sums count,
   with the start of the program taken off, which one shell of 3,000 would have once: that of an empty script.
 """
+import os
 import statistics
 import tempfile
 
@@ -59,6 +60,7 @@ def with_a_sync_each(folder):
 
 def main():
     sides.build()
+    print(f"load of the machine: {os.getloadavg()[0]:.1f} on {os.cpu_count()} processors")
     with tempfile.TemporaryDirectory() as folder:
         in_one_shell(folder)
         with_a_sync_each(folder)

@@ -14,7 +14,7 @@ import tempfile
 
 TOP = os.path.dirname(os.path.dirname(os.path.abspath(__file__)))
 LAUNCHER = os.path.join(TOP, "fxfs")
-PROGRAM = os.path.join(TOP, "crates", "fxfs_cli", "out", "fxfs_cli")
+PROGRAM = os.path.join(TOP, "out", "fxfs")
 BLOCK_BYTES = 4096
 BLOCKS = 8192
 JOURNAL_BLOCKS = 1024

@@ -13,7 +13,7 @@ from typing import NamedTuple
 
 TOP = os.path.dirname(os.path.dirname(os.path.abspath(__file__)))
 LAUNCHER = os.path.join(TOP, "fxfs")
-PROGRAM = os.path.join(TOP, "crates", "fxfs_cli", "out", "fxfs_cli")
+PROGRAM = os.path.join(TOP, "out", "fxfs")
 PATH = os.pathsep.join([os.environ.get("PATH", ""), "/usr/sbin", "/sbin"])
 BLOCK = 4096
 BLOCKS = 8192
@@ -120,13 +120,13 @@ def fxfs_again(folder):
     return spend([PROGRAM, os.path.join(folder, "fxfs.img"), "shell"], script, os.path.join(folder, "fxfs.out"))
 
 
-def ext4(folder):
-    """An image with an ext4 file system, and a file of one byte to be copied into it."""
+def ext4(folder, text):
+    """An image with an ext4 file system, and a file with this text to be copied into it."""
     image = blank(folder, "ext4.img")
     subprocess.run([tool("mke2fs"), "-q", "-F", "-t", "ext4", image], stdin=subprocess.DEVNULL, check=True)
     one = os.path.join(folder, "one")
-    with open(one, "wb") as file:
-        file.write(b"x")
+    with open(one, "w", encoding="ascii") as file:
+        file.write(text)
     return image, one
 
 
@@ -140,23 +140,24 @@ def debugfs_run(folder, image, lines, count, mark):
 
 
 def debugfs_creates(folder, count):
-    """As many files of one byte in a directory."""
+    """As many empty files in a directory."""
     if not tool("debugfs") or not tool("mke2fs"):
         return None
-    image, one = ext4(folder)
+    return debugfs_fill(folder, count, "")[1]
+
+
+def debugfs_fill(folder, count, text):
+    """An image with as many files with this text in a directory, and what it took to write them."""
+    image, one = ext4(folder, text)
     lines = ["mkdir v", "cd v", *(f"write {one} f{n}" for n in range(count))]
-    return debugfs_run(folder, image, lines, count, b"Allocated inode:")
+    return image, debugfs_run(folder, image, lines, count, b"Allocated inode:")
 
 
 def debugfs_reads(folder, count):
     """As many files of 100 bytes are printed."""
     if not tool("debugfs") or not tool("mke2fs"):
         return None
-    image, one = ext4(folder)
-    with open(one, "w", encoding="ascii") as file:
-        file.write(TEXT)
-    lines = ["mkdir v", "cd v", *(f"write {one} f{n}" for n in range(count))]
-    debugfs_run(folder, image, lines, count, b"Allocated inode:")
+    image, _ = debugfs_fill(folder, count, TEXT)
     return debugfs_run(folder, image, ["cd v", *(f"cat f{n}" for n in range(count))], count, TEXT.encode())
 
 
@@ -173,29 +174,29 @@ def sqlite_run(folder, fresh, mode, lines):
     return spend([tool("sqlite3"), "-bail", image], script, os.path.join(folder, "sqlite.out"))
 
 
-def inserts(count):
-    return [f"insert into files values ('/v/f{n}', '{TEXT}');" for n in range(count)]
+def inserts(count, text):
+    return [f"insert into files values ('/v/f{n}', '{text}');" for n in range(count)]
 
 
-def sqlite_creates(folder, count):
+def sqlite_creates(folder, count, text=""):
     """As many rows in one transaction."""
     if not tool("sqlite3"):
         return None
-    return sqlite_run(folder, True, "delete", ["begin;", *inserts(count), "commit;"])
+    return sqlite_run(folder, True, "delete", ["begin;", *inserts(count, text), "commit;"])
 
 
 def sqlite_syncs(folder, count, mode):
     """As many rows, each in a transaction of its own, with the journal in this mode."""
     if not tool("sqlite3"):
         return None
-    return sqlite_run(folder, True, mode, inserts(count))
+    return sqlite_run(folder, True, mode, inserts(count, ""))
 
 
 def sqlite_reads(folder, count):
     """As many rows are printed."""
     if not tool("sqlite3"):
         return None
-    sqlite_creates(folder, count)
+    sqlite_creates(folder, count, TEXT)
     return sqlite_run(folder, False, "delete", [f"select body from files where path = '/v/f{n}';" for n in range(count)])
 
 

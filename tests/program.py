@@ -1,25 +1,23 @@
 """Checks of the built program: what it prints and the status that it ends with, on real streams."""
 import os
+import shutil
 import subprocess
 import sys
 import tempfile
+import time
 
 TOP = os.path.dirname(os.path.dirname(os.path.abspath(__file__)))
 LAUNCHER = os.path.join(TOP, "fxfs")
-PROGRAM = os.path.join(TOP, "crates", "fxfs_cli", "out", "fxfs_cli")
+PROGRAM = os.path.join(TOP, "out", "fxfs")
 MEMORY = ["mem:2048", "shell"]
 
 
-def run(words, script=b"", **streams):
+def run(words, script=b"", **how):
     """The status, standard output and standard error of one run."""
-    done = subprocess.run(
-        [PROGRAM, *words],
-        input=None if "stdin" in streams else script,
-        stdout=streams.get("stdout", subprocess.PIPE),
-        stderr=subprocess.PIPE,
-        timeout=120,
-        **({"stdin": streams["stdin"]} if "stdin" in streams else {}),
-    )
+    if "stdin" not in how:
+        how["input"] = script
+    how = {"stdout": subprocess.PIPE, "stderr": subprocess.PIPE, "timeout": 120, **how}
+    done = subprocess.run([PROGRAM, *words], check=False, **how)
     return done.returncode, done.stdout, done.stderr
 
 
@@ -54,9 +52,13 @@ def no_command():
 
 
 def images_that_are_none():
-    images = ["mem:1087", "mem:02048", "mem:65537", "mem:", "/nowhere/disk.img", b"\xff"]
-    got = [run(words)[::2] for words in [[], *([image, "shell"] for image in images)]]
-    return got, [(12, b"fxfs: image\n")] * 7
+    """Words that name none, and what is no file that can be read and written: a folder, a pipe, a running program."""
+    with tempfile.TemporaryDirectory() as folder:
+        pipe = os.path.join(folder, "pipe")
+        os.mkfifo(pipe)
+        images = ["mem:1087", "mem:02048", "mem:65537", "mem:", "", "/nowhere/disk.img", b"\xff", folder, pipe, PROGRAM]
+        got = [run(words)[::2] for words in [[], *([image, "shell"] for image in images)]]
+    return got, [(12, b"fxfs: image\n")] * 11
 
 
 def on_file(size, *commands):
@@ -101,20 +103,24 @@ def superblocks_of_a_file():
 
 
 def file_that_cannot_be_written():
-    if os.geteuid() == 0:
-        # Root may write to any file, so the refusal cannot be seen here.
-        return None, None
+    """Root may write to any file, so the program is run as nobody where this is run as root."""
+    nobody = {"user": 65534, "group": 65534, "extra_groups": []} if os.geteuid() == 0 else {}
     with tempfile.TemporaryDirectory() as folder:
-        image = os.path.join(folder, "disk.img")
+        os.chmod(folder, 0o755)
+        image, program = os.path.join(folder, "disk.img"), os.path.join(folder, "fxfs")
+        shutil.copy(PROGRAM, program)
         with open(image, "wb") as disk:
             disk.truncate(8 << 20)
-        os.chmod(image, 0o400)
-        return run([image, "shell"])[::2], (12, b"fxfs: image\n")
+        os.chmod(image, 0o444)
+        done = subprocess.run(
+            [program, image, "shell"], stdin=subprocess.DEVNULL, capture_output=True, timeout=120, check=False, **nobody
+        )
+        return (done.returncode, done.stdout, done.stderr), (12, b"", b"fxfs: image\n")
 
 
 def standard_error_that_fails():
     with open("/dev/full", "wb") as full:
-        return subprocess.run([PROGRAM, "/nowhere/disk.img", "shell"], stderr=full, timeout=120, check=False).returncode, 12
+        return run(["/nowhere/disk.img", "shell"], stderr=full)[0], 12
 
 
 def smallest_and_greatest_image():
@@ -135,6 +141,48 @@ def standard_output_that_fails():
         return run(MEMORY, b"mkdir /v\n", stdout=full)[::2], (6, b"")
 
 
+def streams_that_are_closed():
+    """A stream that is closed fails by the launcher. By the program alone standard output fails and standard input is
+    at its end. No image takes its place: the image has the same length, and what was done is there."""
+    got = []
+    with tempfile.TemporaryDirectory() as folder:
+        image = os.path.join(folder, "disk.img")
+        with open(image, "wb") as disk:
+            disk.truncate(8 << 20)
+        run([image, "mkfs"])
+        script = "mkdir /a\\ncreate /a/b\\n"
+        for closed in (">&-", "<&-", "<&- >&- 2>&-", "2>&-"):
+            words = f"printf '{script}' | {{ '{LAUNCHER}' '{image}' shell {closed}; }}"
+            done = subprocess.run(
+                ["sh", "-c", words], stdin=subprocess.DEVNULL, capture_output=True, timeout=120, check=False
+            )
+            got.append((done.returncode, done.stdout, done.stderr))
+        alone = f"printf '{script}' | {{ '{PROGRAM}' '{image}' shell >&-; }}; echo $?; '{PROGRAM}' '{image}' shell <&- >&-; echo $?"
+        got.append(subprocess.run(["sh", "-c", alone], capture_output=True, timeout=120, check=False).stdout)
+        got += [os.path.getsize(image), run([image, "shell"], b"list /a\n")]
+    again = b"1 1 err 2 1 exists\n1 2 err 2 1 exists\n"
+    return got, [
+        (6, b"", b""), (5, b"stop 5 read\n", b""), (5, b"", b""), (0, again, b""),
+        b"6\n0\n", 8 << 20, (0, b"1 1 list 2 1 b\n", b""),
+    ]
+
+
+def reader_that_goes_away():
+    """Where standard output is a pipe that nobody reads, what was done is in the image all the same."""
+    with tempfile.TemporaryDirectory() as folder:
+        image = os.path.join(folder, "disk.img")
+        with open(image, "wb") as disk:
+            disk.truncate(8 << 20)
+        run([image, "mkfs"])
+        end, out = os.pipe()
+        os.close(end)
+        try:
+            status = run([image, "shell"], b"mkdir /a\n", stdout=out)[0]
+        finally:
+            os.close(out)
+        return [status, run([image, "shell"], b"list /\n")], [6, (0, b"1 1 list 1 1 a\n", b"")]
+
+
 def input_of_the_greatest_length_and_one_more():
     line = b"mkdir /" + b"n" * 255 + b"\n"
     text = line * (16777216 // len(line))
@@ -147,22 +195,30 @@ CHECKS = [
     example, empty_script, last_line_without_a_line_feed, wrong_line_runs_nothing, words_that_are_no_command,
     no_command, images_that_are_none, formatted_file, ring_of_a_file, file_that_is_too_small, blank_file,
     superblocks_of_a_file, file_that_cannot_be_written, standard_error_that_fails, smallest_and_greatest_image, standard_input_that_fails,
-    standard_output_that_fails, input_of_the_greatest_length_and_one_more,
+    standard_output_that_fails, streams_that_are_closed, reader_that_goes_away, input_of_the_greatest_length_and_one_more,
 ]
 
 
-def main():
-    # The first run builds the program where it is not built, and may take long.
+def build():
+    """Builds the program where it is not built, which may take long."""
     subprocess.run([LAUNCHER, *MEMORY], stdin=subprocess.DEVNULL, stdout=subprocess.DEVNULL, check=True)
+
+
+def check_all(checks):
+    """Compares what each check got with what it wants, and ends with status 1 where one differs; -t prints times."""
     failed = 0
-    for check in CHECKS:
+    for check in checks:
+        start = time.monotonic()
         got, want = check()
         if got != want:
             failed += 1
-            print(f"{check.__name__}: got {got!r}, wanted {want!r}")
-    print(f"{len(CHECKS) - failed} passed, {failed} failed")
-    return 1 if failed else 0
+            print(f"{check.__name__}: got {got!r:.2000}, wanted {want!r:.2000}")
+        if "-t" in sys.argv:
+            print(f"{check.__name__}: {time.monotonic() - start:.1f} s")
+    print(f"{len(checks) - failed} passed, {failed} failed")
+    sys.exit(1 if failed else 0)
 
 
 if __name__ == "__main__":
-    sys.exit(main())
+    build()
+    check_all(CHECKS)
