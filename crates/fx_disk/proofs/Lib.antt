@@ -6,3 +6,5 @@ pub mod Loose
 pub mod Written
 pub mod Settled
 pub mod Told
+pub mod Longer
+pub mod Frames

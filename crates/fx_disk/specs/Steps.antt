@@ -1,5 +1,5 @@
 -- What calls do to what a disk tells.
-use Rattle.std.specs.Prelude.{◌≡◌, ℕ, ◌+◌, ◌≤◌, ◌<◌, ◌⊎◌, ◌^◌, Bool, true, false, Option, Some, None, List, [], ◌∷◌, ◌++◌, length, slice_set, slice_index_or}
+use Rattle.std.specs.Prelude.{◌≡◌, ℕ, ◌+◌, ◌<◌, ◌⊎◌, ◌^◌, Bool, true, false, Option, Some, None, List, [], ◌∷◌, ◌++◌, length, slice_set, slice_index_or}
 use denote.Struct.Props.{props}
 use Rattle.fx_disk.specs.Record.{Call, Write, Flush, DiskRecord, IsBlock, call_at, cell_now}
 
@@ -45,13 +45,6 @@ pub record IsNotMade (before after : ℕ) (made ok : Bool) (keeps : Type 0) : Ty
 -- A write or a flush, by the count of calls before and after it, whether it was made, and its answer.
 abbrev pub MadeOrNot : ℕ → ℕ → Bool → Bool → Type 0 → Type 0 → Type 0
 MadeOrNot before after made ok does keeps = IsMade before after made does ⊎ IsNotMade before after made ok keeps
-
--- The counts stay in their ranges.
-pub record IsCounted (size calls reads faults : ℕ) : Type 0 where
-  pub few_blocks : size < 2 ^ 32
-  pub few_calls : calls ≤ 2 ^ 63
-  pub few_reads : reads ≤ 2 ^ 63
-  pub few_faults : faults < 2 ^ 64
 
 -- A call of a disk of `n` blocks.
 abbrev pub IsCallOf : ℕ → Call → Type 0
