@@ -5,3 +5,4 @@ pub mod Overlay
 pub mod Reading
 pub mod LockKey
 pub mod Look
+pub mod SpaceRule

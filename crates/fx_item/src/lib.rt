@@ -9,6 +9,7 @@ mod look;
 mod name;
 mod order;
 mod reading;
+mod space;
 mod writing;
 
 pub use bytes::Bytes;
@@ -18,6 +19,7 @@ pub use lock::{LockKey, Mode};
 pub use look::{Level, Look, LookFault};
 pub use name::{MAX_NAME, Name, is_name};
 pub use reading::decode;
+pub use space::{Beyond, MAX_GIVEN, Need, layer_bound};
 pub use writing::{encode, encoded_len};
 
 /// What a tree holds, the root not counted.
