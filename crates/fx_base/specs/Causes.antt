@@ -1,9 +1,13 @@
 -- Why an object of the outside failed: its count of faults rose.
 use Rattle.std.specs.Prelude.{◌≡◌, ℕ, ◌+◌, ◌-◌, ◌^◌, ◌≤◌, min, Bool, true, false}
 
--- The count rose, or stands at its end: a `u64` that can rise no further. It never falls.
+-- a count that stands still at the end of a `u64`, one higher
+abbrev pub risen : ℕ → ℕ
+risen count = min (count + 1) (2 ^ 64 - 1)
+
+-- The count rose, or stands at its end. It never falls.
 abbrev pub Rose : ℕ → ℕ → Type 0
-Rose before now = min (before + 1) (2 ^ 64 - 1) ≤ now
+Rose before now = risen before ≤ now
 
 -- A count of faults over a call that was good, or that failed.
 abbrev pub RoseUnless : Bool → ℕ → ℕ → Type 0

@@ -1,3 +1,17 @@
-//! Definitions that every layer cites, and the lemmas on them: why an object of the outside failed.
-//! There is no code here; the definitions are in `specs/`, the lemmas in `proofs/`.
+//! What every layer stands on: the size of a block, counts that stop at their end, lists, digits,
+//! and why an object of the outside failed. Lemmas on orders, lists, bytes and numbers that several
+//! crates cite are in `proofs/`.
 #![tactic(auto)]
+
+mod block;
+mod count;
+mod digits;
+mod list;
+
+pub use block::{BLOCK_BYTES, zero_block};
+pub use count::count_up;
+pub use digits::are_digits;
+pub use list::List;
+
+#[cfg(test)]
+mod tests;
