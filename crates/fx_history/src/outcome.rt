@@ -1,7 +1,7 @@
 //! How lines end.
 ghost use Rattle.std.specs.Prelude.{◌≡◌};
 
-use fx_journal::Full;
+use fx_item::Full;
 use fx_plain::{Answer, Refusal};
 use std::marker::Model;
 

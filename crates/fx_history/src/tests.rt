@@ -1,7 +1,6 @@
 //! The text of each kind of end.
 use super::*;
-use fx_item::{Bytes, Name};
-use fx_journal::Full;
+use fx_item::{Bytes, Full, Name};
 use fx_plain::{Answer, Kind, Names, Refusal};
 use fx_script::read_script;
 use std::alloc::{AllocError, Global};

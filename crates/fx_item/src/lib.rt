@@ -2,6 +2,7 @@
 #![tactic(auto)]
 
 mod bytes;
+mod full;
 mod item;
 mod key_list;
 mod lock;
@@ -13,6 +14,7 @@ mod space;
 mod writing;
 
 pub use bytes::Bytes;
+pub use full::Full;
 pub use item::{Item, ItemFault, Items, Key, Value};
 pub use key_list::KeyList;
 pub use lock::{LockKey, Mode};

@@ -5,7 +5,7 @@ use Rattle.fx_journal.specs.Ring.{RingState, Queued, live, want}
 use Rattle.fx_journal.specs.Stream.{place_of}
 use Rattle.fx_journal.specs.declared.ring.Wrote.{Wrote}
 use Rattle.fx_journal.specs.declared.ring.Wrote.TheVariants.{Block, Nothing}
-use Rattle.fx_journal.specs.declared.ring.Full.{Full}
+use Rattle.fx_item.specs.declared.full.Full.{Full}
 
 -- the disk block of a sequence number
 abbrev pub block_at : RingState → ℕ → ℕ

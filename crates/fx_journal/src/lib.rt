@@ -9,8 +9,9 @@ mod ring_buffers;
 mod stream;
 mod walker;
 
+pub use fx_item::Full;
 pub use place::{FIRST_BLOCK, block_number};
-pub use ring::{Full, Ring, Wrote};
+pub use ring::{Ring, Wrote};
 pub use stream::{Blocks, Stream, StreamBlock, WalkFault};
 pub use walker::walk;
 

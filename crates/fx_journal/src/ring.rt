@@ -8,24 +8,12 @@ ghost use Rattle.fx_journal.specs.Ring.{begun, want};
 use crate::place::block_number;
 use crate::ring_buffers::{give_first, give_last, pack_into, take_blocks, write_buffer};
 use fx_disk::{Disk, DiskFailed};
+use fx_item::Full;
 use fx_jblock::{RECORD_BYTES, Start};
 use fx_pool::{Buf, Pool};
 use std::alloc::{AllocError, Global};
 use std::collections::VecDeque;
 use std::marker::Model;
-use thiserror::Error;
-
-/// A reservation found no room in the ring. All three are numbers of blocks.
-#[derive(Clone, Copy, Debug, PartialEq, Eq, Error)]
-#[error("the journal is full: {live} blocks live, {promised} promised, {want} wanted")]
-pub struct Full {
-    /// The blocks from the start through the unfinished one, plus one where that holds bytes.
-    pub live: u32,
-    /// The blocks that other reservations hold.
-    pub promised: u32,
-    /// The blocks that this reservation wants.
-    pub want: u32,
-}
 
 /// What [`Ring::write_next`] wrote.
 #[derive(Clone, Copy, Debug, PartialEq, Eq)]

@@ -10,7 +10,7 @@ use Rattle.fx_plain.specs.declared.step.Refusal.{Refusal}
 use Rattle.fx_script.specs.declared.line.Line.TheVariants.{Single, Sync}
 use Rattle.fx_script.specs.declared.script.Task.{Task}
 use Rattle.fx_journal.specs.Ring.{RingState}
-use Rattle.fx_journal.specs.declared.ring.Full as rings
+use Rattle.fx_item.specs.declared.full.Full as rings
 use Rattle.fx_pool.specs.Region.{Region}
 use Rattle.fx_disk.specs.Record.{DiskRecord}
 use Rattle.fx_record.specs.Txns.{txns_of}

@@ -6,7 +6,7 @@ use Rattle.fx_plain.specs.declared.step.Step.{Step}
 use Rattle.fx_disk.specs.Record.{DiskRecord}
 use Rattle.fx_pool.specs.Region.{Region}
 use Rattle.fx_journal.specs.Ring.{RingState, IsRing, KeepsBuffers, Queued, HoldsQueue, Appended, blocks_out, live}
-use Rattle.fx_journal.specs.declared.ring.Full.{Full}
+use Rattle.fx_item.specs.declared.full.Full.{Full}
 use Rattle.fx_image.specs.Standing.{StandsFor, items_after}
 use Rattle.fx_image.specs.Journal.{Journal}
 use Rattle.fx_image.specs.Mounted.{IsMounted}

@@ -4,7 +4,7 @@ ghost use Rattle.std.specs.Option.{IfSome};
 ghost use Rattle.fx_base.specs.Causes.{Rose};
 ghost use Rattle.fx_plain.specs.Tree.{Tree};
 ghost use Rattle.fx_plain.specs.Table.{is_reading};
-ghost use Rattle.fx_journal.specs.declared.ring.Full.{Full};
+ghost use Rattle.fx_item.specs.declared.full.Full.{Full};
 ghost use Rattle.fx_script.specs.declared.script.Task.{Task};
 ghost use Rattle.fx_script.specs.Print.{StepKeepsRules};
 ghost use Rattle.fx_history.specs.History.{settle};

@@ -5,7 +5,7 @@ use Rattle.std.proofs.lemmas.List.Sums.{fold-append}
 use Rattle.std.proofs.lemmas.Option.{slice_get_within}
 use Rattle.fx_base.specs.Causes.{Rose}
 use Rattle.fx_plain.specs.Tree.{Tree}
-use Rattle.fx_journal.specs.declared.ring.Full.{Full}
+use Rattle.fx_item.specs.declared.full.Full.{Full}
 use Rattle.fx_script.specs.declared.script.Task.{Task}
 use Rattle.fx_history.specs.declared.entry.Entry.{Entry}
 use Rattle.fx_history.specs.declared.outcome.EndKind.{EndKind}

@@ -9,7 +9,7 @@ use Rattle.fx_image.specs.Standing.{Transactions}
 use Rattle.fx_image.specs.Prefix.{KeepsPrefix, KeepsAll}
 use Rattle.fx_io.specs.Told.{GivesAtMost}
 use Rattle.fx_plain.specs.Tree.{Tree}
-use Rattle.fx_journal.specs.declared.ring.Full.{Full}
+use Rattle.fx_item.specs.declared.full.Full.{Full}
 use Rattle.fx_script.specs.declared.script.Task.{Task}
 use Rattle.fx_history.specs.declared.entry.Entry.{Entry}
 use Rattle.fx_history.specs.declared.outcome.EndKind.TheVariants as ends

@@ -1,7 +1,7 @@
 use Rattle.std.proofs.Common.{◌≡◌, ℕ, ◌+◌, ◌<◌, [], ◌∷◌, ◌++◌, refl, sym, ap, subst, ◌∙◌, suc, take, drop, length, arith, rules, length-append, length-drop}
 use Rattle.std.specs.Prelude.{List}
 use Rattle.fx_plain.specs.Tree.{Tree}
-use Rattle.fx_journal.specs.declared.ring.Full.{Full}
+use Rattle.fx_item.specs.declared.full.Full.{Full}
 use Rattle.fx_script.specs.declared.script.Task.{Task}
 use Rattle.fx_history.specs.declared.entry.Entry.{Entry}
 use Rattle.fx_history.specs.declared.outcome.EndKind.TheVariants as ends
