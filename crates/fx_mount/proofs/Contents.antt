@@ -19,8 +19,8 @@ use Rattle.fx_mount.specs.declared.fault.MountFault.{MountFault}
 use Rattle.fx_mount.specs.declared.fault.MountFault.TheVariants as faults
 use Rattle.fx_mount.specs.declared.fault.MountFault.TheVariants.{BadTree, Cramped}
 use Rattle.fx_mount.specs.Found.{HasStream, HasSuper, IsMountCause, IsRefused}
-use Rattle.fx_mount.specs.Nodes.{NodeTable}
-use Rattle.fx_mount.specs.Session.{KnowsNodes}
+use Rattle.fx_store.specs.Nodes.{NodeTable}
+use Rattle.fx_store.specs.Session.{KnowsNodes}
 use Rattle.fx_mount.specs.Reading.{IsGathered, IsReadFault}
 
 module _ (f : Fields) (blocks : List StreamBlock) (txns : Transactions) (table : PlainTable) (are : IsTxns f.base (pieces_of blocks) txns) (gathered : IsGathered f txns table) where

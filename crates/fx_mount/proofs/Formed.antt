@@ -24,7 +24,8 @@ use Rattle.fx_super.proofs.Blocks as blocks
 use Rattle.fx_super.proofs.Chosen.{zeros_have_no_magic}
 use Rattle.fx_image.specs.Chosen.{start_of}
 use Rattle.fx_image.specs.Standing.{HasAmpleRoom, IsImage}
-use Rattle.fx_mount.specs.Formatted.{IsFormatted, IsLaidOut, zero_bytes}
+use Rattle.fx_mount.specs.Formatted.{IsFormatted, IsLaidOut}
+use Rattle.fx_store.specs.Zeros.{zero_bytes}
 use Rattle.fx_mount.specs.Found.{IsMountable}
 
 -- ---- a block of zeros

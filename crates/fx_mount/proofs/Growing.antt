@@ -21,9 +21,9 @@ use Rattle.fx_namespace.proofs.Walks.{child_value, ends_with, last_step, one_pat
 use Rattle.fx_nodes.specs.declared.walk.TreeNode.{TreeNode}
 use Rattle.fx_nodes.specs.Tree.{AreTreeNodes}
 use Rattle.fx_mount.specs.Growing.{AreParentsFirst, HasNodes, HasPaths, MayStand, empty_node}
-use Rattle.fx_mount.specs.Nodes.{NodeTable}
-use Rattle.fx_mount.specs.Session.{KnowsNodes, new_step}
-use Rattle.fx_mount.proofs.Planning as tables
+use Rattle.fx_store.specs.Nodes.{NodeTable}
+use Rattle.fx_store.specs.Session.{KnowsNodes, new_step}
+use Rattle.fx_store.proofs.Planning as tables
 
 -- ---- ways
 

@@ -10,7 +10,8 @@ use Rattle.fx_disk.proofs.Cells.{IsFixed, fixed-after, after-write, other-block,
 use Rattle.fx_image.specs.Longer.{BothTell, GoesOn}
 use Rattle.fx_image.proofs.Going.{goes_on-same, goes_on-then, goes_on-call}
 use Rattle.fx_image.proofs.Told.{IsTold, good-made}
-use Rattle.fx_mount.specs.Formatted.{IsLaidOut, zero_bytes}
+use Rattle.fx_mount.specs.Formatted.{IsLaidOut}
+use Rattle.fx_store.specs.Zeros.{zero_bytes}
 use Rattle.fx_mount.specs.Laying.{IsLaid, KeepsFirst}
 
 pub laid-none : (r : DiskRecord) → KeepsFirst 1 r r

@@ -1,14 +1,8 @@
-pub mod Keeps
 pub mod Laying
 pub mod Finding
 pub mod Growing
 pub mod Gathering
 pub mod Contents
-pub mod Prepared
+pub mod Mountable
 pub mod Taken
 pub mod Formed
-pub mod PathMaps
-pub mod Planning
-pub mod Stores
-pub mod Ends
-pub mod Writing

@@ -4,12 +4,9 @@ use Rattle.fx_base.specs.Causes.{Rose}
 use Rattle.fx_disk.specs.Record.{DiskRecord}
 use Rattle.fx_disk.specs.Settled.{IsSettled}
 use Rattle.fx_super.specs.Super.{Fields, IsSuper, first_fields}
+use Rattle.fx_store.specs.Zeros.{zero_bytes}
 use Rattle.fx_mount.specs.declared.fault.MkfsFault.{MkfsFault}
 use Rattle.fx_mount.specs.declared.fault.MkfsFault.TheVariants.{Size, Device}
-
--- a block of zeros
-unfoldable pub zero_bytes : List ℕ
-zero_bytes = replicate 4096 0
 
 -- So many blocks have room for a ring of this length, and are not too many.
 pub record HasRoomFor (ring blocks : ℕ) : Type 0 where

@@ -15,6 +15,8 @@ use Rattle.fx_journal.specs.Stream.{IsStream}
 use Rattle.fx_record.specs.Txns.{IsTxns, IsBadRecord}
 use Rattle.fx_image.specs.Chosen.{Chooses, start_of, layers_of}
 use Rattle.fx_image.specs.Standing.{Transactions, IsImage, HasRoom, items_after, kept, pieces_of}
+use Rattle.fx_store.specs.declared.opening.BeginFault.{BeginFault}
+use Rattle.fx_store.specs.declared.opening.BeginFault.TheVariants as begin
 use Rattle.fx_mount.specs.declared.fault.MountFault.{MountFault}
 use Rattle.fx_mount.specs.declared.fault.MountFault.TheVariants.{NoSuper, Version, DiskSize, BadLayer, BadRecord, BadTree, Cramped, Device, OutOfMemory}
 
@@ -53,6 +55,11 @@ HasStream image f blocks = (next : Start) × IsStream image f.ring f.generation 
 -- The chosen superblock's ring has so many blocks, and of it so many are live: those of the stream, and the next.
 abbrev pub HasRing : List (List ℕ) → ℕ → ℕ → Type 0
 HasRing image ring live = (f : Fields) (blocks : List StreamBlock) → Chooses f image → HasStream image f blocks → (ring ≡ f.ring) × (live ≡ length blocks + 1)
+
+-- why a disk was not mounted, where no store was begun on it
+abbrev pub fault_of : BeginFault → MountFault
+fault_of begin.Device = Device
+fault_of begin.OutOfMemory = OutOfMemory
 
 -- What was read of the two places of superblocks is what stands there.
 pub record AreSlots (image : List (List ℕ)) (first second : Result Super SuperFault) : Type 0 where

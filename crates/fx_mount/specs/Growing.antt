@@ -8,7 +8,7 @@ use Rattle.fx_plain.specs.declared.kind.Kind.{Kind}
 use Rattle.fx_plain.specs.declared.kind.Kind.TheVariants.{Dir, File}
 use Rattle.fx_namespace.specs.Nodes.{root_node}
 use Rattle.fx_nodes.specs.declared.walk.TreeNode.{TreeNode}
-use Rattle.fx_mount.specs.Nodes.{NodeTable}
+use Rattle.fx_store.specs.Nodes.{NodeTable}
 
 -- a node of that kind which holds nothing
 abbrev pub empty_node : Kind → Node

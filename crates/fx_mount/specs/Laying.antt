@@ -3,7 +3,7 @@ use Rattle.std.specs.Prelude.{◌≡◌, ℕ, ◌<◌, ◌≤◌, List, [], slic
 use Rattle.fx_disk.specs.Record.{DiskRecord}
 use Rattle.fx_disk.specs.Settled.{IsSettled, HasNoFailed}
 use Rattle.fx_image.specs.Longer.{GoesOn}
-use Rattle.fx_mount.specs.Formatted.{zero_bytes}
+use Rattle.fx_store.specs.Zeros.{zero_bytes}
 
 -- Block 0 has these bytes, the blocks from 1 up to `end` have zeros, and the rest is as it was.
 pub record IsLaid (end : ℕ) (first : List ℕ) (before after : DiskRecord) : Type 0 where

@@ -1,12 +1,5 @@
 pub mod Formatted
 pub mod Found
 pub mod Reading
-pub mod Prepared
 pub mod Growing
 pub mod Laying
-pub mod Mounted
-pub mod Line
-pub mod Calls
-pub mod Nodes
-pub mod Session
-pub mod Inside

@@ -24,16 +24,6 @@ pub record IsGathered (f : Fields) (txns : Transactions) (table : PlainTable) : 
   pub next_id : table.next_id ≡ min (next_id_after f.next_id (lists_of txns)) (2 ^ 64 - 1)
   pub next_store : table.next_store ≡ min (next_store_after f.next_store (lists_of txns)) (2 ^ 32 - 1)
 
--- What was read of a disk: the blocks of its stream, so many, up to the next place; their transactions, of
--- which the last has the number `base`; and the tree that these make.
-pub record IsRead (size : ℕ) (told : Option DiskRecord) (f : Fields) (closed : ℕ) (next : Start) (base : ℕ) (txns : Transactions) (tree : Tree) : Type 0 where
-  pub blocks : List StreamBlock
-  pub closed_is : length blocks ≡ closed
-  pub few : length blocks ≤ f.ring
-  pub reading : IsReading size base f blocks next txns
-  pub stands : StandsFor (items_after txns) tree
-  pub stream : IfSome told (λ r. IsStream r.contents f.ring f.generation (start_of f) blocks next)
-
 -- Why an image was not read: memory ran out, or the fault is the first that holds of it.
 abbrev pub IsReadFault : ℕ → List (List ℕ) → MountFault → Type 0
 IsReadFault size image OutOfMemory = Unit {0}

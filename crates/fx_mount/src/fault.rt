@@ -2,6 +2,7 @@
 ghost use Rattle.std.specs.Prelude.{◌≡◌};
 
 use fx_disk::DiskFailed;
+use fx_store::BeginFault;
 use std::alloc::AllocError;
 use thiserror::Error;
 
@@ -77,5 +78,18 @@ impl From<AllocError> for MountFault {
 
     fn from(_: AllocError) -> MountFault {
         MountFault::OutOfMemory
+    }
+}
+
+impl From<BeginFault> for MountFault {
+    ghost use Rattle.fx_mount.specs.Found.{fault_of};
+
+    ghost from_gives = { λ fault mounting. mounting ≡ fault_of fault };
+
+    fn from(fault: BeginFault) -> MountFault {
+        match fault {
+            BeginFault::Device => MountFault::Device,
+            BeginFault::OutOfMemory => MountFault::OutOfMemory,
+        }
     }
 }

@@ -8,16 +8,9 @@ ghost use Rattle.fx_image.specs.Chosen.{Chooses, layers_of};
 ghost use Rattle.fx_mount.specs.Found.{AreSlots, HasSuper, IsMountCause, IsRefused, first_slot, second_slot};
 
 use crate::fault::MountFault;
-use crate::format::zero_block;
 use fx_disk::{Disk, DiskFailed};
+use fx_store::{Found, zero_block};
 use fx_super::{Super, SuperFault, Which, choose, decode_super};
-
-/// A superblock that a session can go on from, and where it stands.
-#[derive(Clone, Copy, Debug)]
-pub(crate) struct Found {
-    pub(crate) sup: Super,
-    pub(crate) chosen: Which,
-}
 
 /// The first layer that the superblock names.
 fn first_layer(sup: &Super) -> Option<u32>

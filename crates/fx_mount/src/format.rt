@@ -2,21 +2,14 @@
 ghost use Rattle.std.specs.Prelude.{◌≡◌, ℕ, ◌+◌, ◌*◌, ◌<◌, ◌≤◌, IfErr, OnOk, OnErr};
 ghost use Rattle.fx_base.specs.Causes.{Rose};
 ghost use Rattle.fx_image.specs.Longer.{BothTell, Extends};
-ghost use Rattle.fx_mount.specs.Formatted.{HasRoomFor, IsFormatted, IsLaidOut, IsMkfsCause, zero_bytes};
+ghost use Rattle.fx_mount.specs.Formatted.{HasRoomFor, IsFormatted, IsLaidOut, IsMkfsCause};
 ghost use Rattle.fx_mount.specs.Laying.{IsLaid, KeepsFirst};
-ghost use Rattle.fx_mount.specs.Calls.{HasFailedLast};
+ghost use Rattle.fx_store.specs.Calls.{HasFailedLast};
 
 use crate::fault::MkfsFault;
 use fx_disk::{Disk, DiskFailed};
+use fx_store::zero_block;
 use fx_super::{MAX_BLOCKS, RING_SHARE, SPARE_BLOCKS, encode_super, first_super};
-
-/// A block of zeros.
-#[tactic(auto, unfolding(crate::specs::Formatted::zero_bytes))]
-pub(crate) fn zero_block() -> [u8; 4096]
-    ensures { result ≡ zero_bytes }
-{
-    [0; 4096]
-}
 
 /// Formats the disk with a ring of `ring` blocks, 256 to 1,024: zeros in block 1 and in the ring, a
 /// flush, the first superblock in block 0, and another flush. Makes `ring + 4` writes and flushes,

@@ -9,64 +9,39 @@ ghost use Rattle.fx_namespace.specs.Nodes.{Stands};
 ghost use Rattle.fx_namespace.specs.Trees.{IsTreeOf, bare};
 ghost use Rattle.fx_record.specs.Commits.{IsCommit};
 ghost use Rattle.fx_record.specs.Txns as records;
-ghost use Rattle.fx_record.specs.Txns.{IsTxns, bytes_of, txns_of};
+ghost use Rattle.fx_record.specs.Txns.{IsTxns, txns_of};
+ghost use Rattle.fx_journal.specs.Stream.{IsSeries};
 ghost use Rattle.fx_super.specs.Super.{KeepsRules, fields_of};
 ghost use Rattle.fx_image.specs.Chosen.{Chooses, layers_of, start_of};
 ghost use Rattle.fx_image.specs.Standing.{HasRoom, StandsFor, Transactions, items_after, kept, lists_of, pieces_of};
 ghost use Rattle.fx_mount.specs.Found.{HasStream, HasSuper, IsMountCause};
 ghost use Rattle.fx_mount.specs.Growing.{AreParentsFirst, HasNodes, HasPaths, MayStand, empty_node};
-ghost use Rattle.fx_mount.specs.Session.{KnowsNodes, new_step};
-ghost use Rattle.fx_mount.specs.Reading.{IsGathered, IsRead, IsReadFault};
+ghost use Rattle.fx_store.specs.Session.{KnowsNodes, new_step};
+ghost use Rattle.fx_store.specs.Opening.{IsRead};
+ghost use Rattle.fx_mount.specs.Reading.{IsGathered, IsReadFault};
 
 use crate::fault::MountFault;
-use crate::nodes::NodeMap;
 use fx_disk::Disk;
-use fx_jblock::Start;
-use fx_journal::{Blocks, WalkFault, walk};
+use fx_journal::{Blocks, Stream, WalkFault, walk};
 use fx_nodes::{ItemTable, TreeNode, TreeNodes, check, tree_nodes};
 use fx_plain::{Kind, Plain, Step};
 use fx_record::{Piece, Txns, TxnsFault, read_txns};
+use fx_store::{Contents, NodeMap, start_of};
 use fx_super::Super;
 use std::alloc::{AllocError, Global};
 
-/// What was read of a disk: the place after its stream, how many blocks that has, and what these hold.
-#[derive(Drop)]
-pub(crate) struct Opened {
-    pub(crate) next: Start,
-    pub(crate) closed: u32,
-    pub(crate) contents: Contents,
-}
-
-/// What the blocks of a stream hold: the transactions, of which the last has the number `base`; the tree
-/// that they make, and the node of each of its paths; and the first numbers that nothing has used.
-#[derive(Drop)]
-pub(crate) struct Contents {
-    pub(crate) base: u64,
-    pub(crate) txns: Txns,
-    pub(crate) tree: Plain,
-    pub(crate) nodes: NodeMap,
-    pub(crate) next_id: u64,
-    pub(crate) next_store: u32,
-}
-
-/// A tree, and the node of each of its paths.
-#[derive(Drop)]
-struct Begun {
-    tree: Plain,
-    nodes: NodeMap,
-}
-
 /// Reads the stream, its transactions and the tree that their items make. One pass over the stream's
 /// blocks, and the time of its records and of the nodes.
-pub(crate) fn open<D: Disk>(alloc: Global, disk: &mut D, sup: &Super) -> Result<Opened, MountFault>
+pub(crate) fn read_journal<D: Disk>(
+    alloc: Global,
+    disk: &mut D,
+    sup: &Super,
+) -> Result<Contents, MountFault>
     requires rules { KeepsRules (fields_of sup.now) }
     requires disk { sup.now.blocks ≡ D.size disk.old }
     requires layers { layers_of (fields_of sup.now) ≡ [] }
     requires chosen { IfSome (D.told disk.old) (λ r. Chooses (fields_of sup.now) r.contents) }
-    ensures reads { IfOk result (λ o. IsRead (D.size disk.old) (D.told disk.old) (fields_of sup.now) o.closed o.next o.contents.base (txns_of o.contents.txns) o.contents.tree) }
-    ensures nodes { IfOk result (λ o. KnowsNodes (items_after (txns_of o.contents.txns)) o.contents.nodes) }
-    ensures next_id { IfOk result (λ o. o.contents.next_id ≡ next_id_after sup.now.next_id (lists_of (txns_of o.contents.txns))) }
-    ensures next_store { IfOk result (λ o. o.contents.next_store ≡ next_store_after sup.now.next_store (lists_of (txns_of o.contents.txns))) }
+    ensures reads { IfOk result (IsRead (D.size disk.old) (D.told disk.old) (fields_of sup.now)) }
     ensures cause { IfErr result (IsMountCause (D.size disk.old) (D.told disk.old) (D.faults disk.old) (D.faults disk.new)) }
     ensures told { D.told disk.new ≡ D.told disk.old }
     ensures calls { D.calls disk.new ≡ D.calls disk.old }
@@ -79,44 +54,29 @@ pub(crate) fn open<D: Disk>(alloc: Global, disk: &mut D, sup: &Super) -> Result<
         Err(WalkFault::Device) => return Err(MountFault::Device),
         Err(WalkFault::OutOfMemory) => return Err(MountFault::OutOfMemory),
     };
-    let closed = stream.blocks.len() as u32;
-    let next = stream.next;
-    match read_contents(alloc, sup, stream.blocks) {
-        Ok(contents) => Ok(Opened {
-            next,
-            closed,
-            contents,
-        }),
-        Err(fault) => Err(fault),
-    }
+    read_contents(alloc, sup, stream)
 }
 
-/// Where the superblock says that the stream begins.
-pub(crate) fn start_of(sup: &Super) -> Start
-    ensures { result ≡ start_of (fields_of sup.now) }
-{
-    Start {
-        sequence: sup.sequence,
-        chain: sup.chain,
-        floor: sup.floor,
-    }
-}
-
-/// What these blocks of the stream hold, or the first fault of it.
-fn read_contents(alloc: Global, sup: &Super, blocks: Blocks) -> Result<Contents, MountFault>
+/// What the blocks of the stream hold, or the first fault of it.
+fn read_contents(alloc: Global, sup: &Super, stream: Stream) -> Result<Contents, MountFault>
     requires rules { KeepsRules (fields_of sup.now) }
-    requires short { length (bytes_of (pieces_of blocks)) < 2 ^ 32 }
-    ensures txns { IfOk result (λ c. IsTxns sup.now.base (pieces_of blocks) (txns_of c.txns)) }
+    requires few { length stream.blocks ≤ sup.now.ring }
+    requires series { IsSeries sup.now.generation (start_of (fields_of sup.now)) stream.blocks stream.next }
+    ensures next { IfOk result (λ c. (c.closed ≡ length stream.blocks) × (c.next ≡ stream.next)) }
+    ensures txns { IfOk result (λ c. IsTxns sup.now.base (pieces_of stream.blocks) (txns_of c.txns)) }
     ensures base { IfOk result (λ c. kept (fields_of sup.now) (txns_of c.txns) ≡ c.base) }
     ensures room { IfOk result (λ c. HasRoom (fields_of sup.now) (txns_of c.txns)) }
     ensures stands { IfOk result (λ c. StandsFor (items_after (txns_of c.txns)) c.tree) }
     ensures nodes { IfOk result (λ c. KnowsNodes (items_after (txns_of c.txns)) c.nodes) }
     ensures next_id { IfOk result (λ c. c.next_id ≡ next_id_after sup.now.next_id (lists_of (txns_of c.txns))) }
     ensures next_store { IfOk result (λ c. c.next_store ≡ next_store_after sup.now.next_store (lists_of (txns_of c.txns))) }
-    ensures refused { IfErr result (λ fault. (size : ℕ) (image : List (List ℕ)) → HasSuper size image (fields_of sup.now) → HasStream image (fields_of sup.now) blocks → IsReadFault size image fault) }
+    ensures refused { IfErr result (λ fault. (size : ℕ) (image : List (List ℕ)) → HasSuper size image (fields_of sup.now) →
+        HasStream image (fields_of sup.now) stream.blocks → IsReadFault size image fault) }
     ensures memory { IfErr result (λ fault. fault ≢ MountFault.Device) }
 {
-    let pieces = pieces_of(alloc, blocks)?;
+    let closed = stream.blocks.len() as u32;
+    let next = stream.next;
+    let pieces = pieces_of(alloc, stream.blocks)?;
     let txns = match read_txns(alloc, sup.base, &pieces) {
         Ok(txns) => txns,
         Err(TxnsFault::BadRecord(place)) => return Err(MountFault::BadRecord(place)),
@@ -129,16 +89,18 @@ fn read_contents(alloc: Global, sup: &Super, blocks: Blocks) -> Result<Contents,
             id: node.id,
         });
     }
-    let begun = begin(alloc, &table)?;
+    let (tree, nodes) = tree_of(alloc, &table)?;
     let base = sup.base + txns.as_slice().len() as u64;
     if !has_room(sup, base, &table) {
         return Err(MountFault::Cramped(0));
     }
     Ok(Contents {
+        closed,
+        next,
         base,
         txns,
-        tree: begun.tree,
-        nodes: begun.nodes,
+        tree,
+        nodes,
         next_id: table.next_id(),
         next_store: table.next_store(),
     })
@@ -185,28 +147,28 @@ fn has_room(sup: &Super, base: u64, table: &ItemTable) -> bool
         && u64::from(table.next_store()) + IDS <= 1 << 31
 }
 
-/// The tree of items that make one, and the node of each path.
-fn begin(alloc: Global, table: &ItemTable) -> Result<Begun, AllocError>
+/// The tree of items that make one, and the node of each of its paths.
+fn tree_of(alloc: Global, table: &ItemTable) -> Result<(Plain, NodeMap), AllocError>
     requires { Stands (value_in table.now.items) }
-    ensures tree { IfOk result (λ begun. IsTreeOf (value_in table.now.items) bare begun.tree) }
-    ensures nodes { IfOk result (λ begun. KnowsNodes (value_in table.now.items) begun.nodes) }
+    ensures tree { IfOk result (λ made. IsTreeOf (value_in table.now.items) bare made.0) }
+    ensures nodes { IfOk result (λ made. KnowsNodes (value_in table.now.items) made.1) }
 {
     let nodes = tree_nodes(alloc, table)?;
     grow(alloc, nodes)
 }
 
-/// The tree of these nodes, parents before their children.
-fn grow(alloc: Global, nodes: TreeNodes) -> Result<Begun, AllocError>
+/// The tree of these nodes, parents before their children, and the node of each of its paths.
+fn grow(alloc: Global, nodes: TreeNodes) -> Result<(Plain, NodeMap), AllocError>
     requires { AreParentsFirst nodes }
-    ensures tree { IfOk result (λ begun. HasNodes nodes (length nodes) begun.tree) }
-    ensures nodes { IfOk result (λ begun. HasPaths nodes (length nodes) begun.nodes) }
+    ensures tree { IfOk result (λ made. HasNodes nodes (length nodes) made.0) }
+    ensures nodes { IfOk result (λ made. HasPaths nodes (length nodes) made.1) }
 {
     let mut tree = Plain::new(alloc)?;
     let mut paths = NodeMap::new(alloc)?;
     for node in nodes.into_vec() {
         add_node(alloc, &mut tree, &mut paths, node)?;
     }
-    Ok(Begun { tree, nodes: paths })
+    Ok((tree, paths))
 }
 
 /// Puts a node of the image into the tree: a directory, or a file that holds nothing.

@@ -1,10 +1,11 @@
 //! Lines on a mounted disk, over mounts.
-use crate::{Store, mkfs, mount};
+use crate::{mkfs, mount};
 use fx_disk::Disk;
 use fx_disks::MemDisk;
 use fx_history::{Outcome, result_text};
 use fx_item::Bytes;
 use fx_script::{Tasks, read_script};
+use fx_store::Store;
 use std::alloc::Global;
 use std::test::Fail;
 

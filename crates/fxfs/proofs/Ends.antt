@@ -20,8 +20,8 @@ use Rattle.fx_history.specs.Transcript.{Session}
 use Rattle.fx_mount.specs.declared.fault.MountFault.{MountFault}
 use Rattle.fx_mount.specs.declared.fault.MountFault.TheVariants as mounts
 use Rattle.fx_mount.specs.Found.{HasRing, IsMountedAt, IsMountCause}
-use Rattle.fx_mount.specs.Mounted.{Opens, KeepsImages, KeepsWhole}
-use Rattle.fx_mount.specs.Calls.{HasFailedLast}
+use Rattle.fx_store.specs.Mounted.{Opens, KeepsImages, KeepsWhole}
+use Rattle.fx_store.specs.Calls.{HasFailedLast}
 use Rattle.fxfs.specs.declared.ended.Stop.{Stop}
 use Rattle.fxfs.specs.declared.ended.Stop.TheVariants as stops
 use Rattle.fxfs.specs.declared.shell.TheConstants.{MAX_INPUT}

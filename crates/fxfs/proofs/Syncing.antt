@@ -14,7 +14,7 @@ use Rattle.fx_history.specs.declared.outcome.EndKind.{EndKind}
 use Rattle.fx_history.specs.declared.outcome.EndKind.TheVariants as ends
 use Rattle.fx_history.specs.Outcome.{LineEnd}
 use Rattle.fx_history.proofs.Histories.{got_split}
-use Rattle.fx_mount.specs.Calls.{IsFlushedBy, flushes}
+use Rattle.fx_store.specs.Calls.{IsFlushedBy, flushes}
 use Rattle.fxfs.specs.Lines.{is_synced, synced_in}
 use Rattle.fxfs.specs.Shell.{IsSync, AreSyncs, syncs_in}
 use Rattle.fxfs.proofs.Runs.{end_of, count_more, pairs_more}

@@ -15,8 +15,8 @@ use Rattle.fx_history.specs.Outcome.{LineEnd}
 use Rattle.fx_history.specs.History.{settle}
 use Rattle.fx_history.specs.Transcript.{is_fault}
 use Rattle.fx_history.specs.Text.{result_text}
-use Rattle.fx_mount.specs.Mounted.{KeepsWhole}
-use Rattle.fx_mount.specs.Calls.{IsFlushedBy, HasFailedLast}
+use Rattle.fx_store.specs.Mounted.{KeepsWhole}
+use Rattle.fx_store.specs.Calls.{IsFlushedBy, HasFailedLast}
 use Rattle.fxfs.specs.declared.ended.Stop.{Stop}
 use Rattle.fxfs.specs.declared.ended.Stop.TheVariants as stops
 use Rattle.fxfs.specs.declared.shell.TheConstants.{MAX_INPUT}

@@ -3,7 +3,7 @@ use Rattle.std.specs.Prelude.{◌≡◌, ℕ, ◌≤◌, ◌+◌}
 use Rattle.fx_base.specs.Causes.{Rose}
 use Rattle.fx_image.specs.Longer.{BothTell}
 use Rattle.fx_mount.specs.Formatted.{IsFormatted, HasRoomFor}
-use Rattle.fx_mount.specs.Calls.{HasFailedLast}
+use Rattle.fx_store.specs.Calls.{HasFailedLast}
 use Rattle.fxfs.specs.declared.ended.Stop.{Stop}
 use Rattle.fxfs.specs.declared.ended.Stop.TheVariants as stops
 use Rattle.fxfs.specs.Stop.{mkfs_line}

@@ -18,8 +18,8 @@ use Rattle.fx_history.specs.Transcript.{Session}
 use Rattle.fx_mount.specs.declared.fault.MountFault.{MountFault}
 use Rattle.fx_mount.specs.declared.fault.MountFault.TheVariants as mounts
 use Rattle.fx_mount.specs.Found.{HasRing, IsMountedAt, IsRefused}
-use Rattle.fx_mount.specs.Mounted.{Opens}
-use Rattle.fx_mount.specs.Calls.{IsFlushedBy, HasFailedLast, flushes}
+use Rattle.fx_store.specs.Mounted.{Opens}
+use Rattle.fx_store.specs.Calls.{IsFlushedBy, HasFailedLast, flushes}
 use Rattle.fxfs.specs.declared.ended.Stop.{Stop}
 use Rattle.fxfs.specs.declared.ended.Stop.TheVariants as stops
 use Rattle.fxfs.specs.declared.shell.TheConstants.{MAX_INPUT}

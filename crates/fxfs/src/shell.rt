@@ -8,7 +8,7 @@ ghost use Rattle.fx_plain.specs.Tree.{Tree};
 ghost use Rattle.fx_script.specs.declared.script.Task.{Task};
 ghost use Rattle.fx_history.specs.Outcome.{LineEnd};
 ghost use Rattle.fx_history.specs.Transcript.{Session as IsSession};
-ghost use Rattle.fx_mount.specs.Mounted.{KeepsImages, Opens};
+ghost use Rattle.fx_store.specs.Mounted.{KeepsImages, Opens};
 ghost use Rattle.fxfs.specs.Stop.{status_of};
 ghost use Rattle.fxfs.specs.Outside.{DiskSeen, StreamSeen, Outside, End, IsStopped};
 ghost use Rattle.fxfs.specs.Lines.{Spells, IsNoScript, Finishes, Flushes, Syncs, Tells, TellsEnd, TellsUnsynced, faults_in, synced_in};

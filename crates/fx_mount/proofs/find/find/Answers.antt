@@ -5,7 +5,7 @@ use Rattle.fx_super.specs.Super.{fields_of}
 use Rattle.fx_super.specs.Chosen.{IsChosen}
 use Rattle.fx_mount.specs.Found.{AreSlots, HasSuper, IsRefused}
 use Rattle.fx_mount.proofs.Finding.{slots-told, slots-two, cause-of}
-use Rattle.fx_mount.proofs.Keeps.{if-more}
+use Rattle.fx_store.proofs.Keeps.{if-more}
 use Rattle.fx_mount.proofs.find.find.Goals as goal
 
 pub returns-in-Err-clause-cause : goal.returns-in-Err-clause-cause

@@ -3,7 +3,7 @@ use Rattle.std.specs.Prelude.{Option}
 use Rattle.fx_disk.specs.Record.{DiskRecord}
 use Rattle.fx_disk.specs.Steps.{Writes}
 use Rattle.fx_image.proofs.Told.{good-made, good-counted}
-use Rattle.fx_mount.specs.Formatted.{zero_bytes}
+use Rattle.fx_store.specs.Zeros.{zero_bytes}
 use Rattle.fx_mount.proofs.Laying.{both-begun, both-zeros}
 use Rattle.fx_mount.proofs.format.clear.Goals as goal
 

@@ -1,7 +1,7 @@
 use Rattle.std.proofs.Common.{◌≡◌, ℕ, [], sym, subst}
 use Rattle.std.specs.Prelude.{IfSome}
 use Rattle.fx_record.specs.Txns.{txns_of}
-use Rattle.fx_mount.specs.Mounted.{KeepsImages}
+use Rattle.fx_store.specs.Mounted.{KeepsImages}
 use Rattle.fx_mount.proofs.Prepared.{images_begun}
 use Rattle.fx_mount.proofs.Taken.{answers_free, answers_same}
 use Rattle.fx_mount.proofs.mounting.mount.Goals as goal

@@ -2,7 +2,7 @@ use Rattle.std.proofs.lemmas.Result.{IfOk-weaker}
 use Rattle.fx_item.specs.Look.{value_in}
 use Rattle.fx_namespace.specs.Trees.{IsTreeOf, bare}
 use Rattle.fx_mount.specs.Growing.{HasNodes, HasPaths}
-use Rattle.fx_mount.specs.Session.{KnowsNodes}
+use Rattle.fx_store.specs.Session.{KnowsNodes}
 use Rattle.fx_mount.specs.declared.reading.Begun.{Begun}
 use Rattle.fx_mount.proofs.Growing.{knows_nodes, parents_first, tree_is}
 use Rattle.fx_mount.proofs.reading.begin.Goals as goal

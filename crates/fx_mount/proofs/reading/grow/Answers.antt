@@ -7,7 +7,7 @@ use Rattle.std.proofs.lemmas.Iterator.Consumers.{YieldsList-turn, YieldsList-end
 use Rattle.fx_plain.specs.Tree.{Tree}
 use Rattle.fx_nodes.specs.declared.walk.TreeNode.{TreeNode}
 use Rattle.fx_mount.specs.Growing.{HasNodes, HasPaths}
-use Rattle.fx_mount.specs.Nodes.{NodeTable}
+use Rattle.fx_store.specs.Nodes.{NodeTable}
 use Rattle.fx_mount.proofs.Growing.{none_yet, no_paths, one_more, one_path_more, may_stand, stands_at}
 use Rattle.fx_mount.proofs.reading.grow.Goals as goal
 use Rattle.fx_mount.proofs.reading.grow.Goals.{In-Some}

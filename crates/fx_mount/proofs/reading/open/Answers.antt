@@ -7,7 +7,7 @@ use Rattle.fx_journal.specs.Stream.{IsSeries, IsStream}
 use Rattle.fx_image.specs.Chosen.{Chooses, start_of}
 use Rattle.fx_mount.specs.Reading.{IsReadFault}
 use Rattle.fx_mount.proofs.Contents.{cause_read, series_short}
-use Rattle.fx_mount.proofs.Keeps.{if-both}
+use Rattle.fx_store.proofs.Keeps.{if-both}
 use Rattle.fx_mount.proofs.reading.open.Goals as goal
 
 pub read_contents-requires-clause-short : goal.read_contents-requires-clause-short

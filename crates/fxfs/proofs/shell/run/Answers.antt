@@ -9,7 +9,7 @@ use Rattle.fx_history.specs.Outcome.{LineEnd}
 use Rattle.fx_history.specs.Transcript.{Session, EndsNext}
 use Rattle.fx_history.proofs.Sessions.{Follows, follows_more, follows_none, session_of}
 use Rattle.fx_image.proofs.Going.{extends-same, extends-then}
-use Rattle.fx_mount.specs.Mounted.{Opens}
+use Rattle.fx_store.specs.Mounted.{Opens}
 use Rattle.fxfs.specs.Lines.{synced_in}
 use Rattle.fxfs.specs.Shell.{AreFaults, AreFull, AreSyncs, syncs_in}
 use Rattle.fxfs.proofs.Going.{take_more, drop_more, take_all}

@@ -4,7 +4,7 @@ use Rattle.std.specs.Option.{IfSome}
 use Rattle.fx_script.specs.declared.script.Task.{Task}
 use Rattle.fx_history.specs.Transcript.{Session}
 use Rattle.fx_mount.specs.Found.{IsMountedAt}
-use Rattle.fx_mount.specs.Mounted.{KeepsImages}
+use Rattle.fx_store.specs.Mounted.{KeepsImages}
 use Rattle.fxfs.specs.Outside.{DiskSeen, StreamSeen, Outside, End}
 use Rattle.fxfs.specs.Lines.{IsNoScript}
 use Rattle.fxfs.specs.Shell.{AreFull}

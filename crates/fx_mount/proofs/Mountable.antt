@@ -1,0 +1,79 @@
+-- A disk of which a mount has read all that a store begins with has an image to mount.
+use Rattle.std.proofs.Common.{◌≡◌, ℕ, ◌+◌, length, sym, ap, subst, arith}
+use Rattle.std.specs.Prelude.{IfSome, List, Option}
+use Rattle.fx_disk.specs.Record.{DiskRecord}
+use Rattle.fx_plain.specs.Tree.{Tree}
+use Rattle.fx_super.specs.Super.{Fields, fields_of}
+use Rattle.fx_super.specs.Chosen.{IsChosen}
+use Rattle.fx_journal.specs.Stream.{IsStream}
+use Rattle.fx_record.specs.Txns.{txns_of}
+use Rattle.fx_image.specs.Chosen.{Chooses, start_of}
+use Rattle.fx_image.specs.Standing.{Transactions}
+use Rattle.fx_image.proofs.Images.{one_super, stream_chosen}
+use Rattle.fx_store.specs.Mounted.{Opens}
+use Rattle.fx_store.specs.Opening.{CanBegin, IsRead}
+use Rattle.fx_store.specs.declared.opening.Contents.{Contents}
+use Rattle.fx_store.specs.declared.opening.Found.{Found}
+use Rattle.fx_store.proofs.Keeps.{if-both}
+use Rattle.fx_mount.specs.Found.{HasRing, HasStream, IsMountedAt}
+
+module _ (size : ℕ) (told : Option DiskRecord) (found : Found) (c : Contents) (can : CanBegin size told found c) where
+  abbrev f : Fields
+  f = fields_of found.sup
+
+  abbrev is : IsRead size told f c
+  is = can.read
+
+  abbrev txns : Transactions
+  txns = txns_of c.txns
+
+  abbrev IsHere : DiskRecord → Type 0
+  IsHere r = IsChosen r.contents found.chosen f
+
+  abbrev IsThere : DiskRecord → Type 0
+  IsThere r = IsStream r.contents f.ring f.generation (start_of f) is.blocks c.next
+
+  mounted_with : (r : DiskRecord) → IsHere r → IsThere r → IsMountedAt size c.base txns c.tree r
+  mounted_with r here there = (
+    f,
+    record {
+      slots = omega (arith, is.reading.blocks, is.reading.rules.blocks_least);
+      image_is = record {
+        chosen = (found.chosen, here);
+        blocks = is.reading.blocks;
+        layers = is.reading.layers;
+        stream = is.blocks;
+        next = c.next;
+        stream_is = there;
+        txns_are = is.reading.txns_are;
+        stands = is.stands;
+      };
+      room = is.reading.room;
+    },
+    is.reading.base_is,
+  )
+
+  pub opens_at : (base : ℕ) (others : Transactions) → base ≡ c.base → others ≡ txns
+      → (opening : Tree) × Opens others opening × IfSome told (IsMountedAt size base others opening)
+  opens_at base others same_base same = (
+    c.tree,
+    subst (λ (ts : Transactions). Opens ts c.tree) (sym same) is.stands,
+    subst (λ (n : ℕ). IfSome told (IsMountedAt size n others c.tree)) (sym same_base)
+        (subst (λ (ts : Transactions). IfSome told (IsMountedAt size c.base ts c.tree)) (sym same)
+        (if-both told IsHere IsThere (IsMountedAt size c.base txns c.tree) mounted_with can.chosen is.stream)),
+  )
+
+  -- the ring is the superblock's
+  ring_with : (r : DiskRecord) → Chooses f r.contents → IsThere r → HasRing r.contents f.ring (c.closed + 1)
+  ring_with r chosen there g blocks chooses stream =
+      let same : f ≡ g = one_super r.contents f g chosen chooses in
+      let here : HasStream r.contents f blocks = subst (λ (h : Fields). HasStream r.contents h blocks) (sym same) stream in
+      let one = stream_chosen r.contents f c.next here.0 is.blocks blocks is.reading.rules there here.1 in
+      (ap (λ (h : Fields). h.ring) same, omega (arith, is.closed_is, ap length one.0))
+
+  pub has_ring : (ring live : ℕ) → ring ≡ f.ring → live ≡ c.closed + 1 → IfSome told (λ r. HasRing r.contents ring live)
+  has_ring ring live same_ring same_live =
+      subst (λ (n : ℕ). IfSome told (λ r. HasRing r.contents n live)) (sym same_ring)
+      (subst (λ (n : ℕ). IfSome told (λ r. HasRing r.contents f.ring n)) (sym same_live)
+      (if-both told IsHere IsThere (λ r. HasRing r.contents f.ring (c.closed + 1))
+      (λ r here there. ring_with r (found.chosen, here) there) can.chosen is.stream))

@@ -1,0 +1,408 @@
+-- What a mounted disk keeps inside, over all that happens to it.
+use Rattle.std.proofs.Common.{◌≡◌, ℕ, ◌+◌, ◌*◌, ◌^◌, ◌≤◌, ◌<◌, Bool, true, List, [], ◌∷◌, ◌++◌, length, length-append, drop, refl, sym, ap, subst, ◌∙◌, append_assoc, arith}
+use Rattle.std.specs.Prelude.{Option, None, Some, IfSome, All, Ok, sum_by}
+use Rattle.std.proofs.lemmas.List.{length-drop}
+use Rattle.std.proofs.lemmas.List.Elements.{All-head, All-tail}
+use Rattle.fx_item.specs.Item.{PlainItem}
+use Rattle.fx_item.specs.Look.{ItemMap, after, after_all, next_id, next_store, next_id_after, next_store_after}
+use Rattle.fx_plain.specs.Bare.{bare}
+use Rattle.fx_plain.specs.Table.{do_step, refused}
+use Rattle.fx_plain.specs.Tree.{Tree}
+use Rattle.fx_plain.specs.declared.step.Step.{Step}
+use Rattle.fx_plain.specs.declared.step.Answer.{Answer}
+use Rattle.fx_namespace.specs.Commits.{IsBelow}
+use Rattle.fx_namespace.specs.Trees as holdings
+use Rattle.fx_namespace.specs.Trees.{IsTreeOf}
+use Rattle.fx_namespace.proofs.Items.{after_all-more, next_id_after-more, next_store_after-more}
+use Rattle.fx_namespace.proofs.Trees.{one_tree}
+use Rattle.fx_record.specs.Txns.{txns_of}
+use Rattle.fx_record.proofs.Commits.{least_length}
+use Rattle.fx_history.specs.declared.entry.Entry.{Entry}
+use Rattle.fx_history.specs.History.{SettledFirst, tree_at, settle}
+use Rattle.fx_history.proofs.Histories.{tree_next}
+use Rattle.fx_history.proofs.Settling.{tree_now_settle}
+use Rattle.fx_disk.specs.Record.{DiskRecord}
+use Rattle.fx_disk.proofs.Told.{told-map}
+use Rattle.fx_disk.specs.Steps.{IsRecordOf, Writes, Flushes, MadeOrNot}
+use Rattle.fx_pool.specs.Region.{Region}
+use Rattle.fx_journal.specs.Ring.{RingState, IsRing, KeepsBuffers, Queued, HoldsQueue, Appended, begun, blocks_out, next_block, padded, padded_by, padding, run_blocks, texts, without_first}
+use Rattle.fx_journal.specs.Writing.{block_at, first_bytes}
+use Rattle.fx_image.specs.Log.{AreItemsOf}
+use Rattle.fx_image.specs.Ring.{HasRecords}
+use Rattle.fx_image.specs.Standing.{Transactions, StandsFor, items_after, lists_of}
+use Rattle.fx_image.specs.Journal.{Journal, IsJournal, IsOnDisk, IsWrittenOut, commit_bytes, with_commit, with_closed, with_written, with_settled}
+use Rattle.fx_image.specs.Prefix.{KeepsPrefix, KeepsAll}
+use Rattle.fx_image.specs.Raising.{ChoosesSince, ChoosesNext}
+use Rattle.fx_image.specs.Mounted.{IsMounted}
+use Rattle.fx_image.proofs.Logs.{log_now}
+use Rattle.fx_image.proofs.LogSteps.{after_one}
+use Rattle.fx_image.proofs.NextCommit.{id_now, store_now, below-now, id-low, store-low, next-commit}
+use Rattle.fx_image.proofs.Mounted.{made-counts, mounted-commit, mounted-flush-tried, mounted-padded, mounted-promised, mounted-settled, mounted-tried, mounted-written, mounted-all, settled-out}
+use Rattle.fx_script.specs.declared.script.Task.{Task}
+use Rattle.fx_store.specs.Line.{entry_of}
+use Rattle.fx_store.specs.Mounted.{KeepsImages, KeepsWhole, Opens}
+use Rattle.fx_store.specs.Session.{KnowsNodes, IsSession, IsReady, items_now}
+use Rattle.fx_store.specs.Inside.{HasBuffers, IsStore, Undone, Done}
+use Rattle.fx_store.specs.declared.commit.Commit.{Commit}
+use Rattle.fx_store.specs.declared.session.Session.{Session}
+use Rattle.fx_store.proofs.Planning.{done_from, plan_length}
+
+-- ---- few commits fit the ring
+
+texts-most : (blocks : List Queued) → All HasRecords blocks → length (texts blocks) ≤ 4064 * length blocks
+texts-most [] h = omega arith
+texts-most (q ∷ qs) h =
+    omega (arith, length-append q.text (texts qs), (All-head HasRecords q qs h).room, texts-most qs (All-tail HasRecords q qs h))
+
+pub commits-few : (j : Journal) (calls : ℕ) → IsJournal j calls → length j.text < 4064 → length j.history < 2 ^ 20
+commits-few j calls h short =
+    omega (arith, ap length h.records.joined, length-append (texts j.blocks) j.text, texts-most j.blocks h.closed.records, h.closed.room, h.reading.rules.ring_most, least_length j.base j.records, h.log.one_each, short)
+
+-- ---- the ring and its buffers
+
+padded-buffers : (ring : RingState) (text : List ℕ) → (padded_by ring text).buffers ≡ ring.buffers
+padded-buffers ring [] = refl
+padded-buffers ring (_ ∷ _) = refl
+
+padded-promised : (ring : RingState) (text : List ℕ) → ring.text ≡ text → ring.promised ≡ 0 → (padded_by ring text).promised ≡ 0
+padded-promised ring [] e none = none
+padded-promised ring (x ∷ xs) e none = omega (arith, none, ap begun e)
+
+padded-size : (ring : RingState) (text : List ℕ) → (padded_by ring text).size ≡ ring.size
+padded-size ring [] = refl
+padded-size ring (_ ∷ _) = refl
+
+buffers-padded : (ring new : RingState) (pool region : Region) → HasBuffers ring pool → new ≡ padded ring → IsRing new → KeepsBuffers new.buffers region → region.out ≡ pool.out → region.order ≡ pool.order → HasBuffers new region
+buffers-padded ring new pool region h e is keeps out order = record {
+  ring_is = is;
+  buffers = keeps;
+  out = ap (sum_by run_blocks) out ∙ h.out ∙ ap length (sym (ap (λ (r : RingState). r.buffers) e ∙ padded-buffers ring ring.text));
+  enough = omega (arith, h.enough, ap (λ (r : RingState). r.size) e, padded-size ring ring.text, ap (λ n. 2 ^ n) order);
+  promised = ap (λ (r : RingState). r.promised) e ∙ padded-promised ring ring.text refl h.promised;
+}
+
+buffers-written : (ring new : RingState) (pool region : Region) → HasBuffers ring pool → new ≡ without_first ring → IsRing new → KeepsBuffers new.buffers region → blocks_out region + length ring.buffers ≡ blocks_out pool + length new.buffers
+    → region.order ≡ pool.order → HasBuffers new region
+buffers-written ring new pool region h e is keeps given order = record {
+  ring_is = is;
+  buffers = keeps;
+  out = omega (arith, given, h.out);
+  enough = omega (arith, h.enough, ap (λ (r : RingState). r.size) e, ap (λ n. 2 ^ n) order);
+  promised = ap (λ (r : RingState). r.promised) e ∙ h.promised;
+}
+
+none-begun : (text : List ℕ) → begun text ≡ 0 → text ≡ []
+none-begun [] e = refl
+none-begun (x ∷ xs) e = absurd (omega (arith, e))
+
+-- ---- the state
+
+module _ (size calls : ℕ) (told : Option DiskRecord) (from : ℕ) (s : Session) (ring : RingState) (pool : Region) (h : IsStore size calls told from s ring pool) where
+  abbrev j : Journal
+  j = h.journal
+
+  abbrev is_journal : IsJournal j calls
+  is_journal = h.mounted.journal
+
+  length-is : length s.history.items ≡ length j.history
+  length-is = ap length h.session.history
+
+  -- the numbers of commits are low
+  pub number-low : s.base + length s.history.items ≤ 2 ^ 62
+  number-low = omega (arith, h.session.base, length-is, is_journal.few.few, is_journal.reading.room.commits, is_journal.reading.base_is)
+
+  -- the transactions stand for one tree
+  pub opening-is : (opening : Tree) → Opens (txns_of s.txns) opening → opening ≡ j.tree
+  opening-is opening o = one_tree (items_after j.txns) holdings.bare opening j.tree (subst (λ (t : Transactions). IsTreeOf (items_after t) holdings.bare opening) h.session.txns o.tree_is) h.opens.tree_is
+
+  -- the tree now is the one that the history leads to
+  pub current : (opening : Tree) → Opens (txns_of s.txns) opening → s.tree ≡ tree_at opening s.history.items (s.base + length s.history.items)
+  current opening o =
+      h.session.tree
+      ∙ ap (λ (t : Tree). tree_at t j.history (j.base + length j.history)) (sym (opening-is opening o))
+      ∙ ap (λ (es : List Entry). tree_at opening es (j.base + length es)) (sym h.session.history)
+      ∙ ap (λ (b : ℕ). tree_at opening s.history.items (b + length s.history.items)) (sym h.session.base)
+
+  -- the session knows what stands
+  pub knows : IsSession (items_now j) s
+  knows = record {
+    stands = subst (λ (t : Tree). StandsFor (items_now j) (bare t)) (sym h.session.tree) (log_now j.tree j.base j.txns j.history j.records is_journal.log);
+    knows = h.session.knows;
+    below = subst (λ (n : ℕ). IsBelow (items_now j) s.next.id n) (sym h.session.store)
+        (subst (λ (n : ℕ). IsBelow (items_now j) n (next_store_after j.super.next_store (lists_of j.txns ++ j.records))) (sym h.session.id) (below-now j calls is_journal));
+    ids = omega (arith, h.session.id, id-low j calls is_journal);
+    stores = omega (arith, h.session.store, store-low j calls is_journal);
+  }
+
+  -- ---- lines
+
+  -- a commit is prepared: the session may note a node
+  abbrev pub store-prepared : (t : Session) → t ≡ record s { nodes = t.nodes; history = t.history } → t.history.items ≡ s.history.items → ((items : ItemMap) → IsSession items s → IsSession items t) → IsStore size calls told from t ring pool
+  store-prepared t e items noted = record {
+    journal = j;
+    size_is = h.size_is;
+    from_is = h.from_is;
+    opens = h.opens;
+    mounted = h.mounted;
+    session = record {
+      base = ap (λ (x : Session). x.base) e ∙ h.session.base;
+      txns = ap (λ (x : Session). txns_of x.txns) e ∙ h.session.txns;
+      history = items ∙ h.session.history;
+      settled = ap (λ (x : Session). x.settled) e ∙ h.session.settled;
+      tree = ap (λ (x : Session). x.tree) e ∙ h.session.tree;
+      knows = (noted (items_now j) knows).knows;
+      id = ap (λ (x : Session). x.next.id) e ∙ h.session.id;
+      store = ap (λ (x : Session). x.next.store) e ∙ h.session.store;
+    };
+    buffers = h.buffers;
+  }
+
+  -- it is not done
+  pub store-undone : (t : Session) (new : RingState) (region : Region) → Undone s t ring new pool region → IsStore size calls told from t new region
+  store-undone t new region u = subst (λ (x : Session). IsStore size calls told from x new region) (sym u.session)
+      (record {
+        journal = j;
+        size_is = h.size_is;
+        from_is = h.from_is;
+        opens = h.opens;
+        mounted = mounted-promised j calls told ring pool h.mounted new region ring.promised new.buffers u.ring_is u.queue;
+        session = h.session;
+        buffers = u.buffers;
+      })
+
+  -- it is done
+  module _ (step : Step) (commit : Commit) (t : Session) (new : RingState) (region : Region) (d : Done step commit s t ring new pool region) (ready : IsReady (items_now j) s.nodes s.next step commit)
+      (number : commit.entry.number ≡ s.base + length s.history.items + 1) (settled : commit.entry.settled ≡ 0) (who : 0 < commit.entry.who) (one : commit.entry.steps ≡ step ∷ [])
+      (done : refused (do_step s.tree step).0 ≡ None) where
+    abbrev entry : Entry
+    entry = commit.entry
+
+    abbrev list : List PlainItem
+    list = ready.list
+
+    appended : Appended ring new region (drop j.written j.blocks) (commit_bytes entry list)
+    appended = subst (Appended ring new region (drop j.written j.blocks)) ready.bytes (d.appended (drop j.written j.blocks) h.mounted.ring_is.queue)
+
+    abbrev k : Journal
+    k = with_commit j entry list appended.blocks new.chain new.text
+
+    numbered : entry.number ≡ j.base + length j.history + 1
+    numbered = omega (arith, number, h.session.base, length-is)
+
+    answer : (a : Answer) × ((do_step s.tree step).0 ≡ Ok a)
+    answer = done_from (do_step s.tree step).0 done
+
+    done-there : (do_step (tree_at j.tree j.history (j.base + length j.history)) step).0 ≡ Ok answer.0
+    done-there = ap (λ (x : Tree). (do_step x step).0) (sym h.session.tree) ∙ answer.1
+
+    are : AreItemsOf (items_now j) (id_now j) (store_now j) step list
+    are = subst (λ (n : ℕ). AreItemsOf (items_now j) (id_now j) n step list) h.session.store (subst (λ (n : ℕ). AreItemsOf (items_now j) n s.next.store step list) h.session.id ready.plan.are)
+
+    lists-more : (lists_of j.txns ++ j.records) ++ list ∷ [] ≡ lists_of j.txns ++ (j.records ++ list ∷ [])
+    lists-more = append_assoc (lists_of j.txns) j.records (list ∷ [])
+
+    items-more : after (items_now j) list ≡ items_now k
+    items-more = sym (after_all-more (lists_of j.txns ++ j.records) list) ∙ ap after_all lists-more
+
+    tree-more : (do_step s.tree step).1 ≡ tree_at j.tree (j.history ++ entry ∷ []) (j.base + length (j.history ++ entry ∷ []))
+    tree-more =
+        ap (λ (x : Tree). (do_step x step).1) h.session.tree
+        ∙ sym (after_one (tree_at j.tree j.history (j.base + length j.history)) entry step answer.0 one done-there)
+        ∙ sym (tree_next j.tree j.base j.history entry is_journal.legal numbered)
+
+    pub store-done : IsStore size calls told from t new region
+    store-done = record {
+      journal = k;
+      size_is = h.size_is;
+      from_is = h.from_is;
+      opens = h.opens;
+      mounted = mounted-commit j calls told ring pool h.mounted entry list
+          (next-commit j calls is_journal entry step list answer.0 (commits-few j calls is_journal (omega (arith, h.buffers.ring_is.unfinished_room, ap length h.mounted.ring_is.text))) numbered settled who one done-there are)
+          new region d.buffers.ring_is d.start d.size d.epoch d.queued appended;
+      session = record {
+        base = ap (λ (x : Session). x.base) d.session ∙ h.session.base;
+        txns = ap (λ (x : Session). txns_of x.txns) d.session ∙ h.session.txns;
+        history = d.history ∙ ap (λ (es : List Entry). es ++ entry ∷ []) h.session.history;
+        settled = ap (λ (x : Session). x.settled) d.session ∙ h.session.settled;
+        tree = ap (λ (x : Session). x.tree) d.session ∙ tree-more;
+        knows = subst (λ (m : ItemMap). KnowsNodes m t.nodes) items-more (subst (KnowsNodes (after (items_now j) list)) (ap (λ (x : Session). x.nodes) (sym d.session)) ready.plan.knows);
+        id = ap (λ (x : Session). x.next.id) d.session ∙ ready.plan.id ∙ ap (λ (n : ℕ). next_id n list) h.session.id ∙ sym (next_id_after-more j.super.next_id (lists_of j.txns ++ j.records) list) ∙ ap (next_id_after j.super.next_id) lists-more;
+        store = ap (λ (x : Session). x.next.store) d.session ∙ ready.plan.store ∙ ap (λ (n : ℕ). next_store n list) h.session.store ∙ sym (next_store_after-more j.super.next_store (lists_of j.txns ++ j.records) list) ∙ ap (next_store_after j.super.next_store) lists-more;
+      };
+      buffers = d.buffers;
+    }
+
+  -- ---- the disk
+
+  pub store-padded : (new : RingState) (region : Region) → new ≡ padded ring → IsRing new → KeepsBuffers new.buffers region → region.out ≡ pool.out → region.order ≡ pool.order
+      → ((queue : List Queued) → HoldsQueue ring pool queue → HoldsQueue new region (queue ++ padding ring)) → IsStore size calls told from s new region
+  store-padded new region e is keeps out order queue = record {
+    journal = with_closed j (padding ring) new.chain new.text;
+    size_is = h.size_is;
+    from_is = h.from_is;
+    opens = h.opens;
+    mounted = mounted-padded j calls told ring pool h.mounted new region is e (queue (drop j.written j.blocks) h.mounted.ring_is.queue);
+    session = record { base = h.session.base; txns = h.session.txns; history = h.session.history; settled = h.session.settled; tree = h.session.tree; knows = h.session.knows; id = h.session.id; store = h.session.store };
+    buffers = buffers-padded ring new pool region h.buffers e is keeps out order;
+  }
+
+  module _ (after_told : Option DiskRecord) (counted size_after : ℕ) (made ok : Bool) (same_size : size_after ≡ size) (is : IfSome told (IsRecordOf size calls)) where
+    -- the first block that waits is written, or the write failed
+    module _ (before sequence : ℕ) (next : next_block ring before ≡ Some sequence)
+        (w : (queue : List Queued) → HoldsQueue ring pool queue → MadeOrNot calls counted made ok (Writes told after_told (block_at ring sequence) (first_bytes ring.epoch queue) ok) (after_told ≡ told)) where
+      abbrev wrote : MadeOrNot calls counted made ok (Writes told after_told (block_at ring sequence) (first_bytes ring.epoch (drop j.written j.blocks)) ok) (after_told ≡ told)
+      wrote = w (drop j.written j.blocks) h.mounted.ring_is.queue
+
+      pub store-tried : IsStore size_after counted after_told from s ring pool
+      store-tried = record {
+        journal = j;
+        size_is = h.size_is ∙ sym same_size;
+        from_is = h.from_is;
+        opens = h.opens;
+        mounted = mounted-tried j calls told ring pool h.mounted size is after_told counted made ok before sequence next wrote;
+        session = h.session;
+        buffers = h.buffers;
+      }
+
+      pub store-written : ok ≡ true → (new : RingState) (region : Region) → new ≡ without_first ring → IsRing new → KeepsBuffers new.buffers region → blocks_out region + length ring.buffers ≡ blocks_out pool + length new.buffers → region.order ≡ pool.order
+          → ((queue : List Queued) → HoldsQueue ring pool queue → HoldsQueue new region (drop 1 queue)) → IsStore size_after counted after_told from s new region
+      store-written good new region e ring_is keeps given order queue = record {
+        journal = with_written j;
+        size_is = h.size_is ∙ sym same_size;
+        from_is = h.from_is;
+        opens = h.opens;
+        mounted = mounted-written j calls told ring pool h.mounted size is after_told counted made ok before sequence next wrote good new region e (queue (drop j.written j.blocks) h.mounted.ring_is.queue);
+        session = record { base = h.session.base; txns = h.session.txns; history = h.session.history; settled = h.session.settled; tree = h.session.tree; knows = h.session.knows; id = h.session.id; store = h.session.store };
+        buffers = buffers-written ring new pool region h.buffers e ring_is keeps given order;
+      }
+
+    -- the disk is flushed, or the flush failed
+    module _ (w : MadeOrNot calls counted made ok (Flushes told after_told ok) (after_told ≡ told)) where
+      pub store-flush-tried : IsStore size_after counted after_told from s ring pool
+      store-flush-tried = record {
+        journal = j;
+        size_is = h.size_is ∙ sym same_size;
+        from_is = h.from_is;
+        opens = h.opens;
+        mounted = mounted-flush-tried j calls told ring pool h.mounted size is after_told counted made ok w;
+        session = h.session;
+        buffers = h.buffers;
+      }
+
+      -- no block waits
+      module _ (good : ok ≡ true) (none : ring.queued + begun ring.text ≡ 0) where
+        out : IsWrittenOut j
+        out = record {
+          written = omega (arith, none, h.mounted.ring_is.queue.count, length-drop j.written j.blocks, is_journal.most);
+          text = sym h.mounted.ring_is.text ∙ none-begun ring.text (omega (arith, none));
+        }
+
+        abbrev flushed : Journal
+        flushed = with_settled (calls + 1) j
+
+        mounted-now : IsMounted flushed counted after_told ring pool
+        mounted-now = mounted-settled j calls told ring pool h.mounted size is after_told counted made ok w good out
+
+        counted-is : counted ≡ calls + 1
+        counted-is = made-counts calls counted made ok _ _ good w
+
+        module _ (t : Session) (e : t ≡ record s { settled = length s.history.items; history = t.history }) (items : t.history.items ≡ settle counted s.history.items) where
+          history-is : t.history.items ≡ settle (calls + 1) j.history
+          history-is = items ∙ ap (λ (n : ℕ). settle n s.history.items) counted-is ∙ ap (settle (calls + 1)) h.session.history
+
+          pub store-settled : IsStore size_after counted after_told from t ring pool
+          store-settled = record {
+            journal = flushed;
+            size_is = h.size_is ∙ sym same_size;
+            from_is = h.from_is;
+            opens = h.opens;
+            mounted = mounted-now;
+            session = record {
+              base = ap (λ (x : Session). x.base) e ∙ h.session.base;
+              txns = ap (λ (x : Session). txns_of x.txns) e ∙ h.session.txns;
+              history = history-is;
+              settled = ap (λ (x : Session). x.settled) e ∙ length-is;
+              tree = ap (λ (x : Session). x.tree) e ∙ h.session.tree ∙ sym (tree_now_settle j.tree j.base (calls + 1) j.history);
+              knows = subst (KnowsNodes (items_now j)) (ap (λ (x : Session). x.nodes) (sym e)) h.session.knows;
+              id = ap (λ (x : Session). x.next.id) e ∙ h.session.id;
+              store = ap (λ (x : Session). x.next.store) e ∙ h.session.store;
+            };
+            buffers = h.buffers;
+          }
+
+          -- every image left has the whole history
+          pub store-whole : IfSome after_told (KeepsWhole size_after from (txns_of s.txns) s.base t.history.items)
+          store-whole = told-map (KeepsAll flushed.size flushed.from flushed.tree flushed.base flushed.history) (KeepsWhole size_after from (txns_of s.txns) s.base t.history.items) after_told
+              (λ r all opening opens.
+              subst (λ (n : ℕ). KeepsAll n from opening s.base t.history.items r) (h.size_is ∙ sym same_size)
+              (subst (λ (n : ℕ). KeepsAll j.size n opening s.base t.history.items r) h.from_is
+              (subst (λ (x : Tree). KeepsAll j.size j.from x s.base t.history.items r) (sym (opening-is opening opens))
+              (subst (λ (n : ℕ). KeepsAll j.size j.from j.tree n t.history.items r) (sym h.session.base)
+              (subst (λ (es : List Entry). KeepsAll j.size j.from j.tree j.base es r) (sym history-is) all)))))
+              (mounted-all flushed counted after_told ring pool mounted-now (settled-out (calls + 1) j out) refl)
+
+  -- ---- the end
+
+  -- no entry is settled by a later call than were made
+  pub store-by-now : All (λ (entry : Entry). entry.settled ≤ calls) s.history.items
+  store-by-now = subst (All (λ (entry : Entry). entry.settled ≤ calls)) (sym h.session.history) is_journal.marked.by_now
+
+  -- what the session knows of the commits that are settled
+  pub store-first : SettledFirst s.settled s.history.items
+  store-first = subst (λ (n : ℕ). SettledFirst n s.history.items) (sym h.session.settled) (subst (SettledFirst j.marks) (sym h.session.history) is_journal.marked.first)
+
+  pub store-marks : s.settled ≤ length s.history.items
+  store-marks = omega (arith, h.session.settled, length-is, is_journal.marked.few)
+
+  -- some blocks wait
+  pub store-queue : (queue : List Queued) × HoldsQueue ring pool queue
+  store-queue = (drop j.written j.blocks, h.mounted.ring_is.queue)
+
+  -- the disk has room for the ring
+  pub store-room : ring.size + 2 ≤ size
+  store-room = omega (arith, h.mounted.ring_is.size, is_journal.reading.rules.blocks_least, is_journal.reading.rules.ring_least, is_journal.reading.blocks, h.size_is)
+
+  -- there is a buffer for one more block
+  pub store-free : blocks_out pool + 1 ≤ 2 ^ pool.order
+  store-free = omega (arith, h.buffers.out, h.buffers.enough, h.buffers.promised, h.buffers.ring_is.buffers_len, h.buffers.ring_is.own_places, h.buffers.ring_is.waiting)
+
+  pub store-images : IfSome told (KeepsImages size from (txns_of s.txns) s.base s.history.items)
+  store-images = told-map (IsOnDisk j) (KeepsImages size from (txns_of s.txns) s.base s.history.items) told
+      (λ r d. record {
+        super = subst (λ (n : ℕ). ChoosesSince n r) h.from_is d.journal.chooses;
+        next = subst (λ (n : ℕ). ChoosesNext n r) h.from_is d.next;
+        prefix = λ opening opens.
+            subst (λ (n : ℕ). KeepsPrefix n from opening s.base s.history.items r) h.size_is
+            (subst (λ (n : ℕ). KeepsPrefix j.size n opening s.base s.history.items r) h.from_is
+            (subst (λ (x : Tree). KeepsPrefix j.size j.from x s.base s.history.items r) (sym (opening-is opening opens))
+            (subst (λ (n : ℕ). KeepsPrefix j.size j.from j.tree n s.history.items r) (sym h.session.base)
+            (subst (λ (es : List Entry). KeepsPrefix j.size j.from j.tree j.base es r) (sym h.session.history) d.journal.keeps))));
+      })
+      h.mounted.disk
+
+-- ---- a line that changes the tree
+
+module _ (size calls : ℕ) (told : Option DiskRecord) (from : ℕ) (s : Session) (ring : RingState) (pool : Region) (h : IsStore size calls told from s ring pool) (task : Task) (step : Step)
+    (t : Session) (same : t ≡ record s { nodes = t.nodes; history = t.history }) (items : t.history.items ≡ s.history.items) (noted : (m : ItemMap) → IsSession m s → IsSession m t)
+    (commit : Commit) (entry_is : commit.entry ≡ entry_of (s.base + length s.history.items + 1) task step) (ready : (m : ItemMap) → IsSession m s → IsReady m t.nodes t.next step commit) where
+  abbrev is_ready : IsReady (items_now h.journal) t.nodes t.next step commit
+  is_ready = ready (items_now h.journal) (knows size calls told from s ring pool h)
+
+  -- its record fits one block
+  pub prepared-length : (1 ≤ length commit.record.items) × (length commit.record.items ≤ 4064)
+  prepared-length =
+      let r = is_ready in
+      let l = plan_length (items_now h.journal) t.tree t.nodes t.next (noted (items_now h.journal) (knows size calls told from s ring pool h)) step r.list commit.next r.plan commit.entry.number in
+      (omega (arith, l.0, ap length r.bytes), omega (arith, l.1, ap length r.bytes))
+
+  pub prepared-done : (u : Session) (new : RingState) (region : Region) → Done step commit t u ring new pool region → 0 < task.client → refused (do_step s.tree step).0 ≡ None → IsStore size calls told from u new region
+  prepared-done u new region d client done =
+      store-done size calls told from t ring pool (store-prepared size calls told from s ring pool h t same items noted) step commit u new region d is_ready
+      (ap (λ (x : Entry). x.number) entry_is ∙ omega (arith, ap (λ (x : Session). x.base) same, ap length items))
+      (ap (λ (x : Entry). x.settled) entry_is)
+      (omega (arith, client, ap (λ (x : Entry). x.who) entry_is))
+      (ap (λ (x : Entry). x.steps) entry_is)
+      (ap (λ (x : Session). refused (do_step x.tree step).0) same ∙ done)
+
+  pub prepared-undone : (u : Session) (new : RingState) (region : Region) → Undone t u ring new pool region → IsStore size calls told from u new region
+  prepared-undone = store-undone size calls told from t ring pool (store-prepared size calls told from s ring pool h t same items noted)

@@ -1,0 +1,68 @@
+-- What a mounted disk keeps inside: its session, and the ring with the pool of its buffers, are those of one
+-- journal.
+use Rattle.std.specs.Prelude.{◌≡◌, ℕ, ◌+◌, ◌^◌, ◌≤◌, ◌<◌, List, [], ◌∷◌, ◌++◌, Option, length}
+use Rattle.fx_plain.specs.Table.{do_step}
+use Rattle.fx_plain.specs.declared.step.Step.{Step}
+use Rattle.fx_disk.specs.Record.{DiskRecord}
+use Rattle.fx_pool.specs.Region.{Region}
+use Rattle.fx_journal.specs.Ring.{RingState, IsRing, KeepsBuffers, Queued, HoldsQueue, Appended, blocks_out, live}
+use Rattle.fx_item.specs.declared.full.Full.{Full}
+use Rattle.fx_image.specs.Standing.{StandsFor, items_after}
+use Rattle.fx_image.specs.Journal.{Journal}
+use Rattle.fx_image.specs.Mounted.{IsMounted}
+use Rattle.fx_store.specs.Session.{IsSessionOf}
+use Rattle.fx_store.specs.declared.commit.Commit.{Commit}
+use Rattle.fx_store.specs.declared.put.PutEnd.{PutEnd}
+use Rattle.fx_store.specs.declared.put.PutEnd.TheVariants as ends
+use Rattle.fx_store.specs.declared.session.Session.{Session}
+
+-- The ring has its buffers out of the pool, which has one more for each of its blocks. Nothing is promised.
+pub record HasBuffers (ring : RingState) (pool : Region) : Type 0 where
+  pub ring_is : IsRing ring
+  pub buffers : KeepsBuffers ring.buffers pool
+  pub out : blocks_out pool ≡ length ring.buffers
+  pub enough : ring.size + 1 ≤ 2 ^ pool.order
+  pub promised : ring.promised ≡ 0
+
+-- The state of a disk of so many blocks after so many calls, which tells this and was mounted after `from` calls.
+pub record IsStore (size calls : ℕ) (told : Option DiskRecord) (from : ℕ) (s : Session) (ring : RingState) (pool : Region) : Type 0 where
+  pub journal : Journal
+  pub size_is : journal.size ≡ size
+  pub from_is : journal.from ≡ from
+  pub opens : StandsFor (items_after journal.txns) journal.tree
+  pub mounted : IsMounted journal calls told ring pool
+  pub session : IsSessionOf journal s
+  pub buffers : HasBuffers ring pool
+
+-- ---- a commit that is ready is done, or refused
+
+-- The ring has no place for one more block.
+pub record IsFull (ring : RingState) (full : Full) : Type 0 where
+  pub counts : full ≡ record { live = live ring; promised = 0; want = 1 }
+  pub no_place : ring.size < live ring + 2
+
+-- Nothing changed but which buffers are out.
+pub record Undone (s t : Session) (ring new : RingState) (pool region : Region) : Type 0 where
+  pub session : t ≡ s
+  pub ring_is : new ≡ record ring { buffers = new.buffers }
+  pub queue : (queue : List Queued) → HoldsQueue ring pool queue → HoldsQueue new region queue
+  pub buffers : HasBuffers new region
+
+-- The step is done, the history has the entry, and the record's bytes were appended.
+pub record Done (step : Step) (commit : Commit) (s t : Session) (ring new : RingState) (pool region : Region) : Type 0 where
+  pub session : t ≡ record s { tree = (do_step s.tree step).1; history = t.history; next = commit.next }
+  pub history : t.history.items ≡ s.history.items ++ commit.entry ∷ []
+  pub appended : (queue : List Queued) → HoldsQueue ring pool queue → Appended ring new region queue commit.record.items
+  pub queued : new.queued + ring.closed ≡ ring.queued + new.closed
+  pub start : new.start ≡ ring.start
+  pub size : new.size ≡ ring.size
+  pub epoch : new.epoch ≡ ring.epoch
+  pub buffers : HasBuffers new region
+  pub place : live ring + 2 ≤ ring.size
+  pub live_stays : live ring ≤ live new
+  pub live_rises : live new ≤ live ring + 1
+
+abbrev pub Puts : Step → Commit → (s t : Session) → (ring new : RingState) → (pool region : Region) → PutEnd → Type 0
+Puts step commit s t ring new pool region ends.Done = Done step commit s t ring new pool region
+Puts step commit s t ring new pool region (ends.Full full) = Undone s t ring new pool region × IsFull ring full
+Puts step commit s t ring new pool region ends.OutOfMemory = Undone s t ring new pool region

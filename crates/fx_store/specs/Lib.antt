@@ -1,0 +1,8 @@
+pub mod Zeros
+pub mod Calls
+pub mod Nodes
+pub mod Line
+pub mod Mounted
+pub mod Session
+pub mod Inside
+pub mod Opening

@@ -1,0 +1,97 @@
+-- What a store begins with.
+use Rattle.std.specs.Prelude.{◌≡◌, ℕ, ◌+◌, ◌≤◌, Option, List, [], length}
+use Rattle.std.specs.Option.{IfSome}
+use Rattle.fx_item.specs.Look.{next_id_after, next_store_after}
+use Rattle.fx_disk.specs.Record.{DiskRecord}
+use Rattle.fx_plain.specs.Tree.{Tree}
+use Rattle.fx_super.specs.Super.{Fields, fields_of}
+use Rattle.fx_super.specs.Chosen.{IsChosen}
+use Rattle.fx_jblock.specs.declared.Start.{Start}
+use Rattle.fx_journal.specs.Ring.{RingState}
+use Rattle.fx_journal.specs.Stream.{IsStream}
+use Rattle.fx_journal.specs.declared.stream.StreamBlock.{StreamBlock}
+use Rattle.fx_pool.specs.Region.{Region}
+use Rattle.fx_record.specs.Txns.{txns_of}
+use Rattle.fx_image.specs.Chosen.{start_of}
+use Rattle.fx_image.specs.Standing.{StandsFor, Transactions, items_after, lists_of}
+use Rattle.fx_image.specs.Journal.{IsReading, Journal, begun_journal}
+use Rattle.fx_store.specs.Inside.{HasBuffers}
+use Rattle.fx_store.specs.Session.{IsSessionOf, KnowsNodes}
+use Rattle.fx_store.specs.declared.opening.Contents.{Contents}
+use Rattle.fx_store.specs.declared.opening.Found.{Found}
+use Rattle.fx_store.specs.declared.session.Session.{Session}
+
+-- This was read of a disk of so many blocks with that superblock: the stream's blocks, up to the next place;
+-- their transactions; the tree that these make, with the node of each path; and the first numbers that
+-- nothing has used.
+pub record IsRead (size : ℕ) (told : Option DiskRecord) (f : Fields) (c : Contents) : Type 0 where
+  pub blocks : List StreamBlock
+  pub closed_is : length blocks ≡ c.closed
+  pub few : length blocks ≤ f.ring
+  pub reading : IsReading size c.base f blocks c.next (txns_of c.txns)
+  pub stands : StandsFor (items_after (txns_of c.txns)) c.tree
+  pub stream : IfSome told (λ r. IsStream r.contents f.ring f.generation (start_of f) blocks c.next)
+  pub knows : KnowsNodes (items_after (txns_of c.txns)) c.nodes
+  pub next_id : c.next_id ≡ next_id_after f.next_id (lists_of (txns_of c.txns))
+  pub next_store : c.next_store ≡ next_store_after f.next_store (lists_of (txns_of c.txns))
+
+-- A store can begin on a disk of so many blocks: this is its chosen superblock, and that was read of it.
+pub record CanBegin (size : ℕ) (told : Option DiskRecord) (found : Found) (c : Contents) : Type 0 where
+  pub chosen : IfSome told (λ r. IsChosen r.contents found.chosen (fields_of found.sup))
+  pub read : IsRead size told (fields_of found.sup) c
+
+-- ---- the journal of a store that begins
+
+-- what was read, as plain data: the tree, the number of the last commit, the stream's blocks with the place
+-- after them, and their transactions
+pub record Read : Type 0 where
+  pub tree : Tree
+  pub base : ℕ
+  pub blocks : List StreamBlock
+  pub place : Start
+  pub txns : Transactions
+
+abbrev pub read_of : Contents → List StreamBlock → Read
+read_of c blocks = record {
+  tree = c.tree;
+  base = c.base;
+  blocks = blocks;
+  place = c.next;
+  txns = txns_of c.txns;
+}
+
+-- the journal that goes on from it
+abbrev pub journal_of : (size from : ℕ) → Fields → Read → Journal
+journal_of size from f read =
+    begun_journal size from read.tree read.base f read.blocks read.place read.txns
+
+-- This was read of a disk of so many blocks with that superblock, and it fits together.
+pub record FitsTogether (size : ℕ) (f : Fields) (read : Read) : Type 0 where
+  pub few : length read.blocks ≤ f.ring
+  pub reading : IsReading size read.base f read.blocks read.place read.txns
+  pub stands : StandsFor (items_after read.txns) read.tree
+
+-- The blocks are the stream of the disk.
+abbrev pub IsOn : Fields → Read → DiskRecord → Type 0
+IsOn f read r = IsStream r.contents f.ring f.generation (start_of f) read.blocks read.place
+
+-- the ring that goes on from it
+abbrev pub ring_of : Fields → Read → RingState
+ring_of f read = record {
+  start = start_of f;
+  size = f.ring;
+  epoch = f.generation + 1;
+  closed = length read.blocks;
+  chain = read.place.chain;
+  text = [];
+  promised = 0;
+  queued = 0;
+  buffers = [];
+}
+
+-- All memory that a store begins with is there.
+pub record IsPrepared (size : ℕ) (f : Fields) (read : Read) (s : Session) (ring : RingState) (pool : Region)
+    : Type 0 where
+  pub session : (from : ℕ) → IsSessionOf (journal_of size from f read) s
+  pub ring_is : ring ≡ ring_of f read
+  pub buffers : HasBuffers ring pool
