@@ -5,7 +5,7 @@ use Rattle.fx_base.specs.Causes.{RoseUnless, CountsFault}
 pub faults_same : (count : ℕ) → CountsFault true count count
 faults_same count = record { answer = refl; grows = omega arith }
 
-answer_then : (good : Bool) (a b c : ℕ) → b ≡ a → RoseUnless good b c → RoseUnless good a c
+pub answer_then : (good : Bool) (a b c : ℕ) → b ≡ a → RoseUnless good b c → RoseUnless good a c
 answer_then true a b c first last = last ∙ first
 answer_then false a b c first last = omega (arith, first)
 

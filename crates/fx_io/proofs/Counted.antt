@@ -1,7 +1,7 @@
 -- From what an end in memory says of a call to what its trait says.
-use Rattle.std.proofs.Common.{◌≡◌, ℕ, List, ◌++◌, ap, arith, if◌then◌else◌, take}
-use Rattle.std.specs.Prelude.{Some, Result, Ok, Err, IfOk, OnOk, OnErr, is_ok}
-use Rattle.fx_base.specs.Causes.{Rose}
+use Rattle.std.proofs.Common.{◌≡◌, ℕ, ◌≤◌, List, ◌++◌, ap, arith, if◌then◌else◌, take}
+use Rattle.std.specs.Prelude.{Some, Result, Ok, Err, IfOk, OnErr, is_ok}
+use Rattle.fx_base.specs.Causes.{CountsFault}
 use Rattle.fx_io.specs.Memory.{one_more}
 use Rattle.fx_io.specs.Told.{Gives, Takes}
 
@@ -17,10 +17,6 @@ pub told_kept : {E : Type 0} (r : Result ℕ E) (before now : List ℕ) → OnEr
 told_kept (Ok n) before now e = tt
 told_kept (Err f) before now e = ap Some e
 
-pub counted_failed : {E : Type 0} (r : Result ℕ E) (before now : ℕ) → now ≡ (if is_ok r then before else one_more before) → OnErr r (Rose before now)
-counted_failed (Ok n) before now e = tt
-counted_failed (Err f) before now e = omega arith
-
-pub counted_unfailed : {E : Type 0} (r : Result ℕ E) (before now : ℕ) → now ≡ (if is_ok r then before else one_more before) → OnOk r (now ≡ before)
-counted_unfailed (Ok n) before now e = e
-counted_unfailed (Err f) before now e = tt
+pub counted : {E : Type 0} (r : Result ℕ E) (before now : ℕ) → now ≡ (if is_ok r then before else one_more before) → before ≤ now → CountsFault (is_ok r) before now
+counted (Ok n) before now e grows = record { answer = e; grows = grows }
+counted (Err f) before now e grows = record { answer = omega arith; grows = grows }

@@ -86,25 +86,25 @@ impl MemSource {
 }
 
 impl Source for MemSource {
-    ghost left = { λ s. Some s.left };
-
-    ghost fault_count = { λ s. s.faults };
+    ghost seen = { λ s. record { left = Some s.left; faults = s.faults } };
 
     fn read(&mut self, into: &mut [u8]) -> Result<usize, Failed>
         requires { 0 < length into.old }
         ensures count { IfOk result (λ n. n ≤ length into.new) }
-        ensures piece { IfOk result (λ n. n ≡ min (min (length into.new) (length self.old.left)) self.old.piece) }
+        ensures piece { IfOk result
+            (λ n. n ≡ min (min (length into.new) (length self.old.left)) self.old.piece) }
         ensures gives { IfOk result (λ n. self.old.left ≡ take n into.new ++ self.new.left) }
         ensures ended { IfOk result (λ n. n ≡ 0 → self.new.left ≡ []) }
         ensures kept { OnErr result (self.new.left ≡ self.old.left) }
 
         // It fails exactly at the calls of its list.
         ensures fails { IsErr result ↔ Contains self.old.fails self.new.calls }
-        ensures calls { self.new.calls ≡ one_more self.old.calls }
-        ensures faults { self.new.faults ≡ (if is_ok result then self.old.faults else one_more self.old.faults) }
+        ensures counts { self.new ≡ record self.old {
+          left = self.new.left;
+          calls = one_more self.old.calls;
+          faults = if is_ok result then self.old.faults else one_more self.old.faults;
+        } }
         ensures grows { self.old.faults ≤ self.new.faults }
-        ensures same_piece { self.new.piece ≡ self.old.piece }
-        ensures same_fails { self.new.fails ≡ self.old.fails }
     {
         if self.calls.next_fails() {
             return Err(self.calls.fail());
@@ -174,9 +174,7 @@ impl MemSink {
 }
 
 impl Sink for MemSink {
-    ghost text = { λ s. Some s.text };
-
-    ghost fault_count = { λ s. s.faults };
+    ghost seen = { λ s. record { text = Some s.text; faults = s.faults } };
 
     fn write(&mut self, piece: &[u8]) -> Result<usize, Failed>
         ensures count { IfOk result (λ n. n ≤ length piece.now) }
@@ -187,14 +185,17 @@ impl Sink for MemSink {
 
         // It fails at the calls of its list, and at another only where there is no memory.
         ensures fails { Contains self.old.fails self.new.calls → IsErr result }
-        ensures listed { Contains self.old.fails self.new.calls → self.new.starved ≡ self.old.starved }
+        ensures listed { Contains self.old.fails self.new.calls
+            → self.new.starved ≡ self.old.starved }
         ensures unlisted { ¬ (Contains self.old.fails self.new.calls)
             → self.new.starved ≡ (if is_ok result then self.old.starved else one_more self.old.starved) }
-        ensures calls { self.new.calls ≡ one_more self.old.calls }
-        ensures faults { self.new.faults ≡ (if is_ok result then self.old.faults else one_more self.old.faults) }
+        ensures counts { self.new ≡ record self.old {
+          text = self.new.text;
+          calls = one_more self.old.calls;
+          faults = if is_ok result then self.old.faults else one_more self.old.faults;
+          starved = self.new.starved;
+        } }
         ensures grows { self.old.faults ≤ self.new.faults }
-        ensures same_piece { self.new.piece ≡ self.old.piece }
-        ensures same_fails { self.new.fails ≡ self.old.fails }
     {
         if self.calls.next_fails() {
             return Err(self.calls.fail());

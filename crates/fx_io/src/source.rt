@@ -1,8 +1,9 @@
 //! Where bytes come from.
-ghost use Rattle.std.specs.Prelude.{◌≡◌, ◌≢◌, ℕ, ◌+◌, ◌<◌, ◌≤◌, List, Option, length, take, IfOk, OnOk, OnErr, IsErrOf, Err};
+ghost use Rattle.std.specs.Prelude.{◌≡◌, ◌≢◌, ◌+◌, ◌<◌, ◌≤◌, length, take, is_ok, IfOk, OnErr, IsErrOf, Err};
 ghost use Rattle.std.specs.Io.KnownBytes.{IsAtEnd};
-ghost use Rattle.fx_base.specs.Causes.{Rose};
+ghost use Rattle.fx_base.specs.Causes.{Rose, CountsFault};
 ghost use Rattle.fx_io.specs.Told.{Gives, GivesCount, GivesAtMost};
+ghost use Rattle.fx_io.specs.Seen.{SourceSeen, SourceGoesOn, GivesWhole};
 
 use super::Failed;
 use fx_item::Bytes;
@@ -14,29 +15,23 @@ const PIECE: usize = 16_384;
 
 /// Where bytes come from. Its calls take no memory.
 pub trait Source {
-    /// The bytes that are left, where the source tells them.
-    ghost left: { Self → Option (List ℕ) };
-
-    /// The number that `faults` gives.
-    ghost fault_count: { Self → ℕ };
+    /// All that is seen of the source: the bytes that are left, and its faults.
+    ghost seen: { Self → SourceSeen };
 
     /// Puts the next bytes at the front of `into` and says how many they are; 0 is the end.
     /// `Failed` takes nothing, and is counted.
     fn read(&mut self, into: &mut [u8]) -> Result<usize, Failed>
         requires { 0 < length into.old }
         ensures count { IfOk result (λ n. n ≤ length into.new) }
-        ensures gives { IfOk result (λ n. Gives (left self.old) (left self.new) (take n into.new)) }
-        ensures ended { IfOk result (λ n. n ≡ 0 → IsAtEnd (left self.new)) }
-        ensures kept { OnErr result (left self.new ≡ left self.old) }
-
-        // The count rises where a call fails, and nowhere else.
-        ensures failed { OnErr result (Rose (fault_count self.old) (fault_count self.new)) }
-        ensures unfailed { OnOk result (fault_count self.new ≡ fault_count self.old) }
-        ensures grows { fault_count self.old ≤ fault_count self.new };
+        ensures gives { IfOk result
+            (λ n. Gives (seen self.old).left (seen self.new).left (take n into.new)) }
+        ensures ended { IfOk result (λ n. n ≡ 0 → IsAtEnd (seen self.new).left) }
+        ensures kept { OnErr result ((seen self.new).left ≡ (seen self.old).left) }
+        ensures faults { CountsFault (is_ok result) (seen self.old).faults (seen self.new).faults };
 
     /// How many calls have failed; it stops at `u64::MAX`.
     fn faults(&self) -> u64
-        ensures { result ≡ fault_count self.now };
+        ensures { result ≡ (seen self.now).faults };
 }
 
 /// Why a source was not read to its end.
@@ -57,22 +52,19 @@ pub enum ReadAllFault {
 /// where it is refused; those bytes are then lost. Its memory grows by doubling, so the time is that
 /// of the number of bytes.
 pub fn read_whole<S: Source>(alloc: Global, src: &mut S, limit: u32) -> Result<Bytes, ReadAllFault>
-    ensures whole { IfOk result (λ text. Gives (S.left src.old) (S.left src.new) text) }
-    ensures ended { OnOk result (IsAtEnd (S.left src.new)) }
-    ensures within { IfOk result (λ text. length text ≤ limit) }
-    ensures most { GivesAtMost (S.left src.old) (S.left src.new) (limit + 1) }
+    ensures whole { IfOk result (λ text. GivesWhole (S.seen src.old) (S.seen src.new) limit text) }
     ensures too_much { IsErrOf result ReadAllFault.TooMuch
-        → GivesCount (S.left src.old) (S.left src.new) (limit + 1) }
-
+        → GivesCount (S.seen src.old).left (S.seen src.new).left (limit + 1) }
     ensures failed_within { IsErrOf result ReadAllFault.Failed
-        → GivesAtMost (S.left src.old) (S.left src.new) limit }
+        → GivesAtMost (S.seen src.old).left (S.seen src.new).left limit }
+    ensures most { GivesAtMost (S.seen src.old).left (S.seen src.new).left (limit + 1) }
 
     // The count rises where a call fails, and nowhere else.
     ensures failed { IsErrOf result ReadAllFault.Failed
-        → Rose (S.fault_count src.old) (S.fault_count src.new) }
+        → Rose (S.seen src.old).faults (S.seen src.new).faults }
     ensures unfailed { result ≢ Err ReadAllFault.Failed
-        → S.fault_count src.new ≡ S.fault_count src.old }
-    ensures grows { S.fault_count src.old ≤ S.fault_count src.new }
+        → (S.seen src.new).faults ≡ (S.seen src.old).faults }
+    ensures goes { SourceGoesOn (S.seen src.old) (S.seen src.new) }
 {
     let most = limit as usize;
     let mut text = Vec::new(alloc);

@@ -1,7 +1,7 @@
 //! The standard streams as a source and a sink. They tell no bytes, only how many calls failed.
-ghost use Rattle.std.specs.Prelude.{None, ◌≡◌, ◌<◌, ◌≤◌, IfSome, IfOk, OnOk, OnErr, MatchOption, length, take};
+ghost use Rattle.std.specs.Prelude.{None, ◌≡◌, ◌<◌, ◌≤◌, IfSome, IfOk, is_ok, MatchOption, length, take};
 ghost use Rattle.std.specs.Io.KnownBytes.{Keeps, Consumes, ReadConsumes, IsAtEnd};
-ghost use Rattle.fx_base.specs.Causes.{Rose};
+ghost use Rattle.fx_base.specs.Causes.{CountsFault};
 
 use super::{Failed, Sink, Source};
 use std::alloc::{AllocError, Global};
@@ -39,9 +39,7 @@ impl<R: Read + Drop> StdSource<R> {
 }
 
 impl<R: Read + Drop> Source for StdSource<R> {
-    ghost left = { λ s. None };
-
-    ghost fault_count = { λ s. s.faults };
+    ghost seen = { λ s. record { left = None; faults = s.faults } };
 
     fn read(&mut self, into: &mut [u8]) -> Result<usize, Failed>
         requires { 0 < length into.old }
@@ -49,9 +47,7 @@ impl<R: Read + Drop> Source for StdSource<R> {
 
         // Where the reader tells its bytes, those that it gave are given, and none is lost.
         ensures passes { ReadConsumes self.old.left self.new.left result into.new }
-        ensures failed { OnErr result (Rose self.old.faults self.new.faults) }
-        ensures unfailed { OnOk result (self.new.faults ≡ self.old.faults) }
-        ensures grows { self.old.faults ≤ self.new.faults }
+        ensures faults { CountsFault (is_ok result) self.old.faults self.new.faults }
     {
         match read_some(&mut self.reader, into) {
             Some(count) => Ok(count),
@@ -70,8 +66,10 @@ impl<R: Read + Drop> Source for StdSource<R> {
 /// One read, made again where a signal interrupted it; none where it failed.
 fn read_some<R: Read>(reader: &mut R, into: &mut [u8]) -> Option<usize>
     ensures count { IfSome result (λ n. n ≤ length into.new) }
-    ensures passes { MatchOption result (Keeps (R.remaining reader.old) (R.remaining reader.new)) (λ n. Consumes (R.remaining reader.old) (R.remaining reader.new) (take n into.new)) }
-    ensures ended { IfSome result (λ n. n ≡ 0 → 0 < length into.new → IsAtEnd (R.remaining reader.new)) }
+    ensures passes { MatchOption result (Keeps (R.remaining reader.old) (R.remaining reader.new))
+        (λ n. Consumes (R.remaining reader.old) (R.remaining reader.new) (take n into.new)) }
+    ensures ended { IfSome result
+        (λ n. n ≡ 0 → 0 < length into.new → IsAtEnd (R.remaining reader.new)) }
 {
     for _ in 0..u64::MAX {
         match reader.read(into) {
@@ -111,9 +109,7 @@ impl<P: Print + Clone + Drop> StdSink<P> {
 }
 
 impl<P: Print + Drop> Sink for StdSink<P> {
-    ghost text = { λ s. None };
-
-    ghost fault_count = { λ s. s };
+    ghost seen = { λ s. record { text = None; faults = s } };
 
     fn write(&mut self, piece: &[u8]) -> Result<usize, Failed> {
         match write_some(&self.out, piece) {

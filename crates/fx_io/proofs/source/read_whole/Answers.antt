@@ -6,3 +6,10 @@ pub returns-then-is_err-clause-most : goal.returns-then-is_err-clause-most
 returns-then-is_err-clause-most g c =
     gives_most _ _ _ _ (gives_more _ _ _ _ _ c.loop-buffer.invariant.given c.in-Ok.ensures.gives)
     (simp (length-append, length-take) (omega (arith, length-take c.min-room.result c.loop-buffer.buffer)))
+
+pub returns-then-is_err-clause-goes : goal.returns-then-is_err-clause-goes
+returns-then-is_err-clause-goes g c = record {
+  bytes = _;
+  gives = gives_more _ _ _ _ _ c.loop-buffer.invariant.given c.in-Ok.ensures.gives;
+  faults = omega (arith, c.loop-buffer.invariant.unfailed, c.in-Ok.ensures.faults.grows);
+}

@@ -4,9 +4,9 @@ use Rattle.fx_io.proofs.source.read_whole.Given as goal
 
 abbrev pub invariant-loop-buffer : goal.invariant-loop-buffer
 invariant-loop-buffer g l = record {
-  given : Gives (g.S.Source.left l.fn.src) (g.S.Source.left l.src) l.text.items;
+  given : Gives (g.S.Source.seen l.fn.src).left (g.S.Source.seen l.src).left l.text.items;
   within : vec_len l.text ≤ l.most + 1;
-  unfailed : g.S.Source.fault_count l.src ≡ g.S.Source.fault_count l.fn.src;
+  unfailed : (g.S.Source.seen l.src).faults ≡ (g.S.Source.seen l.fn.src).faults;
 }
 
 abbrev pub decreases-loop-buffer : goal.decreases-loop-buffer

@@ -1,4 +1,6 @@
-use Rattle.fx_io.proofs.Counted.{told_takes, counted_failed, counted_unfailed}
+use Rattle.std.proofs.Common.{ap}
+use Rattle.fx_io.specs.Memory.{MemorySink}
+use Rattle.fx_io.proofs.Counted.{told_takes, counted}
 use Rattle.fx_io.proofs.Pieces.{takes_nothing}
 use Rattle.fx_io.proofs.memory.MemSinkSink.TheImpl.Goals as goal
 
@@ -8,7 +10,5 @@ write-tells c = record {
   moves = c.ensures.moves;
   takes = told_takes c.result _ _ _ c.ensures.takes;
   front = takes_nothing c.result _ _ _ c.ensures.kept;
-  failed = counted_failed c.result _ _ c.ensures.faults;
-  unfailed = counted_unfailed c.result _ _ c.ensures.faults;
-  grows = c.ensures.grows;
+  faults = counted c.result _ _ (ap (λ (s : MemorySink). s.faults) c.ensures.counts) c.ensures.grows;
 }

@@ -1,4 +1,6 @@
-use Rattle.fx_io.proofs.Counted.{told_gives, told_kept, counted_failed, counted_unfailed}
+use Rattle.std.proofs.Common.{ap}
+use Rattle.fx_io.specs.Memory.{MemorySource}
+use Rattle.fx_io.proofs.Counted.{told_gives, told_kept, counted}
 use Rattle.fx_io.proofs.memory.MemSourceSource.TheImpl.Goals as goal
 
 pub read-tells : goal.read-tells
@@ -7,7 +9,5 @@ read-tells c = record {
   gives = told_gives c.result _ _ _ c.ensures.gives;
   ended = c.ensures.ended;
   kept = told_kept c.result _ _ c.ensures.kept;
-  failed = counted_failed c.result _ _ c.ensures.faults;
-  unfailed = counted_unfailed c.result _ _ c.ensures.faults;
-  grows = c.ensures.grows;
+  faults = counted c.result _ _ (ap (λ (s : MemorySource). s.faults) c.ensures.counts) c.ensures.grows;
 }
