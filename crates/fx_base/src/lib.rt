@@ -8,7 +8,7 @@ mod count;
 mod digits;
 mod list;
 
-pub use block::{BLOCK_BYTES, zero_block};
+pub use block::{BLOCK_BYTES, is_zero, zero_block};
 pub use count::count_up;
 pub use digits::are_digits;
 pub use list::List;

@@ -47,6 +47,7 @@ fn digits(rt: HostRuntime) -> Result<(), Fail> {
 
 #[test]
 fn zeros(rt: HostRuntime) -> Result<(), Fail> {
-    assert!(rt; zero_block().iter().all(|byte| *byte == 0));
+    assert!(rt; is_zero(&zero_block()));
+    assert!(rt; !is_zero(&[0, 0, 1]));
     Ok(())
 }

@@ -4,7 +4,7 @@ use Rattle.std.proofs.lemmas.List.{take-append-drop, drop-drop, take_at, drop_at
 use Rattle.byteorder.specs.Endian.{little_bytes, little_number}
 use Rattle.byteorder.specs.Numbers.{little_number-reads_back}
 use Rattle.fx_jblock.specs.Block.{body, IsBody}
-use Rattle.fx_jblock.proofs.Numbers.{IsBytes, IsBytes-drop, number_stands_2, number_stands_8}
+use Rattle.fx_base.proofs.Bytes.{IsBytes, IsBytes-drop, wide2, wide8}
 
 abbrev glue : List ℕ → List ℕ → List ℕ → List ℕ → List ℕ → List ℕ → List ℕ
 glue a b c d t p = a ++ (b ++ (c ++ (d ++ (t ++ p))))
@@ -29,9 +29,9 @@ unfolding body
 fields_make_body bytes s e n len fits le f =
     let text = take n (drop 24 bytes) in
     let text_len : length text ≡ n = omega (arith, length-take n (drop 24 bytes), length-drop 24 bytes) in
-    let a : little_bytes 8 s ≡ take 8 bytes = ap (little_bytes 8) (sym f.sequence_is) ∙ number_stands_8 bytes (omega arith) fits in
-    let b : little_bytes 8 e ≡ take 8 (drop 8 bytes) = ap (little_bytes 8) (sym f.epoch_is) ∙ number_stands_8 (drop 8 bytes) (omega (arith, length-drop 8 bytes)) (IsBytes-drop 8 bytes fits) in
-    let c : little_bytes 2 (length text) ≡ take 2 (drop 16 bytes) = ap (little_bytes 2) (text_len ∙ sym f.used_is) ∙ number_stands_2 (drop 16 bytes) (omega (arith, length-drop 16 bytes)) (IsBytes-drop 16 bytes fits) in
+    let a : little_bytes 8 s ≡ take 8 bytes = ap (little_bytes 8) (sym f.sequence_is) ∙ wide8.stands bytes (omega arith) fits in
+    let b : little_bytes 8 e ≡ take 8 (drop 8 bytes) = ap (little_bytes 8) (sym f.epoch_is) ∙ wide8.stands (drop 8 bytes) (omega (arith, length-drop 8 bytes)) (IsBytes-drop 8 bytes fits) in
+    let c : little_bytes 2 (length text) ≡ take 2 (drop 16 bytes) = ap (little_bytes 2) (text_len ∙ sym f.used_is) ∙ wide2.stands (drop 16 bytes) (omega (arith, length-drop 16 bytes)) (IsBytes-drop 16 bytes fits) in
     let p : replicate (4064 - length text) 0 ≡ drop n (drop 24 bytes) = ap (λ (k : ℕ). replicate (4064 - k) 0) text_len ∙ sym f.padding in
     let whole : glue (little_bytes 8 s) (little_bytes 8 e) (little_bytes 2 (length text)) (replicate 6 0) text (replicate (4064 - length text) 0) ≡ bytes =
     ap (λ (x : List ℕ). glue x (little_bytes 8 e) (little_bytes 2 (length text)) (replicate 6 0) text (replicate (4064 - length text) 0)) a

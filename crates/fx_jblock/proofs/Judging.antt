@@ -1,32 +1,15 @@
 -- What is said of a block, from what its bytes before the sum are.
-use Rattle.std.proofs.Common.{◌≡◌, ℕ, ◌+◌, ◌%◌, ◌^◌, ◌<◌, List, [], ◌∷◌, ◌++◌, length, take, drop, sym, ap, ◌∙◌, arith, length-drop}
-use Rattle.std.specs.Prelude.{fold}
-use Rattle.std.proofs.Math.Nat.{mod-lt}
+use Rattle.std.proofs.Common.{◌≡◌, ℕ, ◌^◌, ◌<◌, List, [], ◌++◌, length, take, drop, sym, ap, ◌∙◌, arith, length-drop}
 use Rattle.std.proofs.lemmas.List.{take-append-drop, take_at, drop_at, take_all}
 use Rattle.byteorder.specs.Endian.{little_bytes, little_number}
 use Rattle.byteorder.specs.Numbers.{little_number-reads_back}
-use Rattle.fx_sum.specs.Checksum.{Sums, add_word, sums_of, words, fletch}
+use Rattle.fx_sum.specs.Checksum.{fletch}
 use Rattle.fx_jblock.specs.declared.Fit.{Fit}
 use Rattle.fx_jblock.specs.declared.Fit.TheVariants.{Torn, Stale, Fits}
 use Rattle.fx_jblock.specs.Block.{body, Holds, Continues, IsBody, Judged, stated_sum, sum_from}
-use Rattle.fx_jblock.proofs.Numbers.{IsBytes, IsBytes-drop, number_stands_8}
+use Rattle.fx_base.proofs.Bytes.{IsBytes, IsBytes-drop, wide8}
+use Rattle.fx_sum.proofs.Fits.{fletch_fits}
 use Rattle.fx_jblock.proofs.Bodies.{body_has_fields, length-body}
-
-record Halves (s : Sums) : Type 0 where
-  low : s.low < 2 ^ 32
-  high : s.high < 2 ^ 32
-
-halves_kept : (s : Sums) (ws : List ℕ) → Halves s → Halves (fold add_word s ws)
-halves_kept s [] h = h
-halves_kept s (w ∷ ws) h =
-    let low = (s.low + w) % 2 ^ 32 in
-    halves_kept (add_word s w) ws (record { low = mod-lt (s.low + w) (omega arith); high = mod-lt (s.high + low) (omega arith) })
-
-fletch_fits : (start : ℕ) (bytes : List ℕ) → start < 2 ^ 64 → fletch start bytes < 2 ^ 64
-fletch_fits start bytes h =
-    let begun : Halves (sums_of start) = record { low = mod-lt start (omega arith); high = omega arith } in
-    let ended = halves_kept (sums_of start) (words bytes) begun in
-    omega (arith, ended.low, ended.high)
 
 -- one block has one epoch and one text
 pub same_body : (b : List ℕ) (s e f : ℕ) (t u : List ℕ) → s < 2 ^ 64 → IsBody b s e t → IsBody b s f u → (e ≡ f) × (t ≡ u)
@@ -58,7 +41,7 @@ holds_sum block s e chain text hc h =
 pub holds_from : (block : List ℕ) (s e chain : ℕ) (text : List ℕ) → length block ≡ 4096 → IsBytes block → stated_sum block ≡ sum_from chain block → IsBody (take 4088 block) s e text → Holds block s e chain text
 holds_from block s e chain text len fits sum h =
     let end_len : length (drop 4088 block) ≡ 8 = omega (arith, length-drop 4088 block) in
-    let stands : little_bytes 8 (stated_sum block) ≡ drop 4088 block = number_stands_8 (drop 4088 block) (omega arith) (IsBytes-drop 4088 block fits) ∙ take_all 8 (drop 4088 block) (omega arith) in
+    let stands : little_bytes 8 (stated_sum block) ≡ drop 4088 block = wide8.stands (drop 4088 block) (omega arith) (IsBytes-drop 4088 block fits) ∙ take_all 8 (drop 4088 block) (omega arith) in
     let sum_is : stated_sum block ≡ fletch chain (body s e text) = sum ∙ ap (fletch chain) h.bytes_are in
     record {
       filled = h.filled;

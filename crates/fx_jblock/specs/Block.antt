@@ -9,7 +9,11 @@ use Rattle.fx_jblock.specs.declared.Fit.TheVariants.{Torn, Stale, Fits}
 -- sequence, epoch, the number of record bytes, six zeros, the record bytes, and zeros
 unfoldable pub body : ℕ → ℕ → List ℕ → List ℕ
 body sequence epoch text =
-    little_bytes 8 sequence ++ (little_bytes 8 epoch ++ (little_bytes 2 (length text) ++ (replicate 6 0 ++ (text ++ replicate (RECORD_BYTES - length text) 0))))
+    little_bytes 8 sequence
+    ++ (little_bytes 8 epoch
+    ++ (little_bytes 2 (length text)
+    ++ (replicate 6 0
+    ++ (text ++ replicate (RECORD_BYTES - length text) 0))))
 
 -- the body, and its sum from the chain before
 abbrev pub journal_block : ℕ → ℕ → ℕ → List ℕ → List ℕ
@@ -39,7 +43,8 @@ abbrev pub sum_from : ℕ → List ℕ → ℕ
 sum_from chain block = fletch chain (take SUM_AT block)
 
 -- The block stands in the stream after the chain: it is of the form, and its epoch lies in the range.
-pub record Continues (block : List ℕ) (sequence floor generation chain epoch : ℕ) (text : List ℕ) : Type 0 where
+pub record Continues (block : List ℕ) (sequence floor generation chain epoch : ℕ) (text : List ℕ)
+    : Type 0 where
   pub holds : Holds block sequence epoch chain text
   pub least : floor ≤ epoch
   pub most : epoch ≤ generation

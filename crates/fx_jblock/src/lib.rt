@@ -1,5 +1,6 @@
-//! The blocks of the journal: 4,096 bytes each, with a sequence number, an epoch, record bytes and a
-//! checksum that begins at the checksum of the block before, so that the blocks make a chain.
+//! The blocks of the journal, which is a write-ahead log: 4,096 bytes each, with a sequence number, an
+//! epoch, record bytes and a checksum that begins at the checksum of the block before, so that the
+//! blocks make a chain, and a torn or an older block ends it.
 #![tactic(auto)]
 
 ghost use Rattle.std.specs.Prelude.{◌≡◌, ◌<◌, ◌≤◌, ◌-◌, ◌↔◌, IsTrue, MatchOption, ℕ, List, length, drop, replicate};
@@ -8,6 +9,7 @@ ghost use Rattle.byteorder.specs.Endian.{little_bytes};
 ghost use Rattle.fx_jblock.specs.Block.{body, Holds, Continues, Judged, IsBody};
 
 use byteorder::{ByteOrder, LittleEndian};
+use fx_base::{BLOCK_BYTES, is_zero};
 use fx_sum::fletch;
 
 /// The most record bytes of a block.
@@ -51,7 +53,7 @@ pub enum Fit {
 
 /// Fills a block with record bytes, and answers the chain after it. `text` has 1 to 4,064 bytes, and
 /// an epoch is at least 1. One pass over the block, and no memory.
-pub fn pack(seq: u64, epoch: u64, chain: u64, text: &[u8], into: &mut [u8; 4096]) -> u64
+pub fn pack(seq: u64, epoch: u64, chain: u64, text: &[u8], into: &mut [u8; BLOCK_BYTES]) -> u64
     requires filled { 1 ≤ length text.now }
     requires room { length text.now ≤ RECORD_BYTES }
     requires begun { 1 ≤ epoch }
@@ -84,16 +86,18 @@ fn fill_body(seq: u64, epoch: u64, text: &[u8], into: &mut [u8])
 
 /// What the block is as the one of sequence `seq` after the chain `chain`, where the epochs from
 /// `floor` to `generation` may stand. One pass over the block, and no memory.
-pub fn fits(block: &[u8; 4096], seq: u64, floor: u64, generation: u64, chain: u64) -> Fit
+pub fn fits(block: &[u8; BLOCK_BYTES], seq: u64, floor: u64, generation: u64, chain: u64) -> Fit
     ensures judged { Judged block.now seq floor generation chain result }
     // A block that continues the stream is told so, with the chain after it.
-    ensures packed { (epoch : ℕ) (text : List ℕ) → Continues block.now seq floor generation chain epoch text
+    ensures packed { (epoch : ℕ) (text : List ℕ)
+        → Continues block.now seq floor generation chain epoch text
         → result ≡ Fit.Fits (fletch chain (body seq epoch text)) epoch (length text) }
 {
     judge(block, seq, floor, generation, chain)
 }
 
-fn judge(block: &[u8; 4096], seq: u64, floor: u64, generation: u64, chain: u64) -> Fit
+/// What the block is in its stream, by its sum and its fields.
+fn judge(block: &[u8; BLOCK_BYTES], seq: u64, floor: u64, generation: u64, chain: u64) -> Fit
     ensures { Judged block.now seq floor generation chain result }
 {
     let (before, sum) = block.split_at(SUM_AT);
@@ -117,7 +121,8 @@ fn judge(block: &[u8; 4096], seq: u64, floor: u64, generation: u64, chain: u64) 
 /// The epoch and the number of record bytes of a block that is of the form and has this sequence.
 fn form_of(before: &[u8], seq: u64) -> Option<(u64, u16)>
     requires { length before.now ≡ SUM_AT }
-    ensures { MatchOption result ((epoch : ℕ) (text : List ℕ) → IsBody before.now seq epoch text → ⊥)
+    ensures { MatchOption result
+        ((epoch : ℕ) (text : List ℕ) → IsBody before.now seq epoch text → ⊥)
         (λ x. (text : List ℕ) × (length text ≡ x.1) × IsBody before.now seq x.0 text) }
 {
     let epoch = LittleEndian::read_u64(&before[8..]);
@@ -134,17 +139,11 @@ fn form_of(before: &[u8], seq: u64) -> Option<(u64, u16)>
 
 /// Whether `used` bytes, at least one, stand in the place of the record bytes, and zeros after them.
 fn is_filled(records: &[u8], used: u16) -> bool
-    ensures { IsTrue result ↔ ((0 < used) × (used ≤ length records.now) × (drop used records.now ≡ replicate (length records.now - used) 0)) }
+    ensures { IsTrue result ↔ ((0 < used) × (used ≤ length records.now)
+        × (drop used records.now ≡ replicate (length records.now - used) 0)) }
 {
     let used = used as usize;
     0 < used && used <= records.len() && is_zero(&records[used..])
-}
-
-/// Whether all bytes are zero.
-fn is_zero(bytes: &[u8]) -> bool
-    ensures { IsTrue result ↔ (bytes.now ≡ replicate (length bytes.now) 0) }
-{
-    bytes.iter().all(|byte| *byte == 0)
 }
 
 #[cfg(test)]

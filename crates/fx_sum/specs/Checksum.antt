@@ -1,4 +1,5 @@
--- The checksum of a list of bytes: a fold over its words of four bytes, the lowest byte first.
+-- Fletcher's checksum of a list of bytes: a fold over its words of four bytes, the lowest byte first,
+-- modulo 2^32.
 use Rattle.std.specs.Prelude.{ℕ, ◌+◌, ◌*◌, ◌/◌, ◌%◌, ◌^◌, List, [], ◌∷◌, fold}
 use Rattle.std.specs.Int.{w32, from_le_bytes}
 
@@ -13,7 +14,9 @@ pub record Sums : Type 0 where
   pub high : ℕ
 
 abbrev pub add_word : Sums → ℕ → Sums
-add_word s w = let low = (s.low + w) % 2 ^ 32 in record { low = low; high = (s.high + low) % 2 ^ 32 }
+add_word s w =
+    let low = (s.low + w) % 2 ^ 32 in
+    record { low = low; high = (s.high + low) % 2 ^ 32 }
 
 -- a checksum as the two sums that it is made of, and back
 abbrev pub sums_of : ℕ → Sums

@@ -1,5 +1,10 @@
-//! The checksum of blocks: two running sums over 4-byte words, which can be begun at an earlier
-//! checksum, so that sums make a chain.
+//! The checksum of blocks: Fletcher's checksum with 64 bits, two running sums over words of four
+//! bytes, the lowest byte first (J. G. Fletcher, "An Arithmetic Checksum for Serial Transmissions",
+//! IEEE Transactions on Communications 30, 1982; RFC 1146 states it with 8 and 16 bits).
+//!
+//! It differs from Fletcher-64 as it is mostly given in two ways. The sums are taken modulo 2^32, as
+//! the processor adds, and not modulo 2^32 - 1. And it can be begun at an earlier checksum, so that
+//! sums make a chain: the sum of all that was summed before stands for what came before.
 #![tactic(auto)]
 
 ghost use Rattle.std.specs.Prelude.{◌≡◌, ◌%◌, length};
