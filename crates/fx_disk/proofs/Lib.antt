@@ -8,3 +8,6 @@ pub mod Settled
 pub mod Told
 pub mod Longer
 pub mod Frames
+pub mod Began
+pub mod Flushed
+pub mod Made

@@ -18,8 +18,8 @@ use Rattle.fx_record.proofs.Commits.{commits_bytes-push}
 use Rattle.fx_super.specs.Super.{Fields}
 use Rattle.fx_image.specs.Standing.{Transactions, lists_of}
 use Rattle.fx_image.specs.Journal.{Journal, IsJournal, IsNextCommit, Appends, IsWrittenOut, AreRecords, AreMarked, AreFew, commit_bytes, with_commit, with_closed, with_written, with_flushed, with_settled}
-use Rattle.fx_image.proofs.Logs.{log_settled}
-use Rattle.fx_image.proofs.Prefixes.{text_of, texts-fewer}
+use Rattle.fx_image.proofs.Replay.{log_settled}
+use Rattle.fx_image.proofs.PrefixImage.{text_of, texts-fewer}
 
 -- ---- the parts
 

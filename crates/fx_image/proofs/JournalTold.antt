@@ -14,16 +14,17 @@ use Rattle.fx_journal.specs.Ring.{Queued}
 use Rattle.fx_super.specs.Super.{Fields, IsSuper}
 use Rattle.fx_super.specs.Chosen.{IsChosen, block_number, other}
 use Rattle.fx_super.specs.declared.choice.Which.{Which}
-use Rattle.fx_image.specs.Chosen.{next_generation, start_of}
-use Rattle.fx_image.specs.Raising.{ChoosesNext}
-use Rattle.fx_image.specs.Ring.{AreClosed, place_in, bytes_in}
+use Rattle.fx_log.specs.Chosen.{next_generation, start_of}
+use Rattle.fx_log.specs.Raising.{ChoosesNext}
+use Rattle.fx_log.specs.Ring.{AreClosed, place_in, bytes_in}
 use Rattle.fx_image.specs.Standing.{Transactions}
 use Rattle.fx_image.specs.Prefix.{KeepsPrefix, KeepsAll}
 use Rattle.fx_image.specs.Journal.{Journal, IsJournal, IsNextCommit, HasJournal, IsOnDisk, IsWrittenOut, begun_journal, with_commit, with_closed, with_written, with_flushed, with_settled}
-use Rattle.fx_image.proofs.Told.{good-made, told-raised}
-use Rattle.fx_image.proofs.Journaled.{keeps-all}
-use Rattle.fx_image.proofs.DiskSteps.{disk-commit, disk-close, disk-tried, disk-written, disk-flush, disk-flushed, disk-settled}
-use Rattle.fx_image.proofs.Begun.{begun-read, begun-raise, begun-flush}
+use Rattle.fx_disk.proofs.Made.{good-made}
+use Rattle.fx_log.proofs.SuperTold.{told-raised}
+use Rattle.fx_image.proofs.PrefixNow.{keeps-all}
+use Rattle.fx_image.proofs.JournalCalls.{disk-commit, disk-close, disk-tried, disk-written, disk-flush, disk-flushed, disk-settled}
+use Rattle.fx_image.proofs.MountCalls.{begun-read, begun-raise, begun-flush}
 
 -- ---- calls that were made
 

@@ -13,23 +13,18 @@ use Rattle.fx_journal.specs.Writing.{block_at, first_bytes}
 use Rattle.fx_journal.proofs.Writes.{made-as}
 use Rattle.fx_pool.specs.Region.{Region, Run}
 use Rattle.fx_super.specs.Super.{Fields}
-use Rattle.fx_image.specs.Chosen.{start_of}
-use Rattle.fx_image.specs.Ring.{place_in, bytes_in}
+use Rattle.fx_log.specs.Chosen.{start_of}
+use Rattle.fx_log.specs.Ring.{place_in, bytes_in}
 use Rattle.fx_image.specs.Standing.{Transactions, StandsFor, items_after}
 use Rattle.fx_image.specs.Journal.{Journal, IsJournal, IsReading, IsNextCommit, IsOnDisk, IsWrittenOut, begun_journal, commit_bytes, with_commit, with_closed, with_written, with_flushed, with_settled}
 use Rattle.fx_image.specs.Prefix.{KeepsPrefix, KeepsAll}
 use Rattle.fx_image.specs.Mounted.{IsMounted}
-use Rattle.fx_image.proofs.Beginnings.{journal-begun, series-next}
+use Rattle.fx_image.proofs.JournalStart.{journal-begun, series-next}
 use Rattle.fx_image.proofs.JournalSteps.{journal-calls, journal-commit, journal-close, journal-write, journal-flush, journal-settle}
 use Rattle.fx_image.proofs.JournalTold.{told-all, told-commit, told-close, told-keeps, told-tried, told-written, told-flush-tried, told-flushed, told-settled}
 use Rattle.fx_image.proofs.Waiting.{first-is, appended, appended-ring, padding-appends, padding-ring, next-queued, next-lt, next-place, next-bytes, written-ring, none-waits, all-written}
-
--- a call is counted, or was not made
-pub no-fewer : (count counted : ℕ) (made ok : Bool) (does keeps : Type 0) → MadeOrNot count counted made ok does keeps → count ≤ counted
-no-fewer count counted made ok does keeps w = ⊎_elim (λ y. omega (arith, y.counted)) (λ no. omega (arith, no.counted)) w
-
-pub made-counts : (count counted : ℕ) (made ok : Bool) (does keeps : Type 0) → ok ≡ true → MadeOrNot count counted made ok does keeps → counted ≡ count + 1
-made-counts count counted made ok does keeps good w = ⊎_elim (λ y. y.counted) (λ no. absurd (let e : true ≡ false = sym good ∙ no.failed in cc)) w
+use Rattle.fx_disk.proofs.Frames.{no_fewer_calls}
+use Rattle.fx_disk.proofs.Made.{made-counts}
 
 -- ---- a disk that was just mounted
 
@@ -115,7 +110,7 @@ module _ (j : Journal) (count : ℕ) (told : Option DiskRecord) (ring : RingStat
       -- It failed, or was not made.
       pub mounted-tried : IsMounted j counted after ring region
       mounted-tried = record {
-        journal = journal-calls j count m.journal counted (no-fewer count counted made ok _ _ w);
+        journal = journal-calls j count m.journal counted (no_fewer_calls count counted made ok _ _ w);
         disk = told-tried j size count m.journal told after is m.disk counted made ok q here writes;
         ring_is = m.ring_is;
       }
@@ -123,7 +118,7 @@ module _ (j : Journal) (count : ℕ) (told : Option DiskRecord) (ring : RingStat
       -- It was good.
       pub mounted-written : ok ≡ true → (new : RingState) (pool : Region) → new ≡ without_first ring → HoldsQueue new pool (drop 1 (drop j.written j.blocks)) → IsMounted (with_written j) counted after new pool
       mounted-written good new pool e holds = record {
-        journal = journal-write j count m.journal counted (no-fewer count counted made ok _ _ w) (next-lt j count m.journal ring region m.ring_is before sequence next);
+        journal = journal-write j count m.journal counted (no_fewer_calls count counted made ok _ _ w) (next-lt j count m.journal ring region m.ring_is before sequence next);
         disk = told-written j size count m.journal told after is m.disk counted made ok q here writes good;
         ring_is = written-ring j count m.journal ring region m.ring_is new pool e holds;
       }
@@ -133,7 +128,7 @@ module _ (j : Journal) (count : ℕ) (told : Option DiskRecord) (ring : RingStat
       -- It failed, or was not made.
       pub mounted-flush-tried : IsMounted j counted after ring region
       mounted-flush-tried = record {
-        journal = journal-calls j count m.journal counted (no-fewer count counted made ok _ _ w);
+        journal = journal-calls j count m.journal counted (no_fewer_calls count counted made ok _ _ w);
         disk = told-flush-tried j size count m.journal told after is m.disk counted made ok w;
         ring_is = m.ring_is;
       }
@@ -141,7 +136,7 @@ module _ (j : Journal) (count : ℕ) (told : Option DiskRecord) (ring : RingStat
       -- It was good: what was written is settled.
       pub mounted-flushed : ok ≡ true → IsMounted (with_flushed j) counted after ring region
       mounted-flushed good = record {
-        journal = journal-flush j count m.journal counted (no-fewer count counted made ok _ _ w);
+        journal = journal-flush j count m.journal counted (no_fewer_calls count counted made ok _ _ w);
         disk = told-flushed j size count m.journal told after is m.disk counted made ok w good;
         ring_is = record { sequence = m.ring_is.sequence; size = m.ring_is.size; epoch = m.ring_is.epoch; closed = m.ring_is.closed; chain = m.ring_is.chain; text = m.ring_is.text; queue = m.ring_is.queue };
       }

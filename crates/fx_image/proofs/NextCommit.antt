@@ -17,7 +17,7 @@ use Rattle.fx_record.proofs.Lengths.{few_commit}
 use Rattle.fx_image.specs.Log.{AreItemsOf, OfDirectory, OfFile, OfWrite}
 use Rattle.fx_image.specs.Standing.{lists_of}
 use Rattle.fx_image.specs.Journal.{Journal, IsJournal, IsNextCommit}
-use Rattle.fx_image.proofs.LogSteps.{log_step, step_are_items, step_ascends, step_numbers}
+use Rattle.fx_image.proofs.ReplaySteps.{log_step, step_are_items, step_ascends, step_numbers}
 
 -- the items that stand in a journal, and the next numbers
 abbrev pub items_now : Journal → ItemMap

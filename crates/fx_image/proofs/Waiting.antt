@@ -11,12 +11,12 @@ use Rattle.fx_journal.specs.Ring.{RingState, IsRing, Queued, HoldsQueue, Appende
 use Rattle.fx_journal.specs.Writing.{block_at, first_bytes}
 use Rattle.fx_journal.proofs.Writes.{next-waits}
 use Rattle.fx_pool.specs.Region.{Region}
-use Rattle.fx_image.specs.Ring.{AreClosed, place_in, bytes_in}
+use Rattle.fx_log.specs.Ring.{AreClosed, place_in, bytes_in}
 use Rattle.fx_image.specs.Journal.{Journal, IsJournal, Appends, IsWrittenOut, with_commit, with_closed, with_written}
 use Rattle.fx_image.specs.Mounted.{IsRingOf}
-use Rattle.fx_image.proofs.Beginnings.{series-next}
-use Rattle.fx_image.proofs.Closing.{closed-appended}
-use Rattle.fx_image.proofs.Places.{drop-get, sequence-linked}
+use Rattle.fx_image.proofs.JournalStart.{series-next}
+use Rattle.fx_log.proofs.RingClosed.{closed-appended}
+use Rattle.fx_log.proofs.RingPlaces.{drop-get, sequence-linked}
 
 front-back : (j : Journal) → take j.written j.blocks ++ drop j.written j.blocks ≡ j.blocks
 front-back j = take-append-drop j.written j.blocks

@@ -14,10 +14,11 @@ use Rattle.fx_record.specs.Record.{TransactionRecord, record_bytes}
 use Rattle.fx_record.specs.Txns.{IsTxns}
 use Rattle.fx_super.specs.Super.{Fields, KeepsRules}
 use Rattle.fx_disk.specs.Record.{DiskRecord}
-use Rattle.fx_image.specs.Chosen.{start_of, layers_of}
-use Rattle.fx_image.specs.Raising.{ChoosesSince, ChoosesNext}
+use Rattle.fx_log.specs.Chosen.{start_of, layers_of}
+use Rattle.fx_log.specs.Raising.{ChoosesSince, ChoosesNext}
 use Rattle.fx_image.specs.Standing.{Transactions, HasRoom, kept, lists_of, pieces_of}
-use Rattle.fx_image.specs.Ring.{BeginsAs, BeginsWith, AreClosed, KeepsRing}
+use Rattle.fx_disk.specs.Began.{BeganAs}
+use Rattle.fx_log.specs.Ring.{BeganWith, AreClosed, KeepsRing}
 use Rattle.fx_image.specs.Log.{IsLog}
 use Rattle.fx_image.specs.Prefix.{KeepsPrefix}
 
@@ -171,8 +172,8 @@ commit_bytes entry items = record_bytes (TransactionRecord entry.number items)
 pub record HasJournal (j : Journal) (r : DiskRecord) : Type 0 where
   pub size : length r.entry ≡ j.size
   pub since : j.from ≤ length r.calls
-  pub begins : (image : List (List ℕ)) → BeginsAs r j.from image → BeginsWith r j.from j.super image j.read j.place
-  pub ring : (image : List (List ℕ)) → BeginsAs r j.from image → KeepsRing r j.from j.super.ring (j.super.generation + 1) j.blocks j.written j.settled
+  pub begins : (image : List (List ℕ)) → BeganAs r j.from image → BeganWith r j.from j.super image j.read j.place
+  pub ring : (image : List (List ℕ)) → BeganAs r j.from image → KeepsRing r j.from j.super.ring (j.super.generation + 1) j.blocks j.written j.settled
   pub chooses : ChoosesSince j.from r
   pub keeps : KeepsPrefix j.size j.from j.tree j.base j.history r
 

@@ -1,9 +1,4 @@
-pub mod Chosen
-pub mod Chance
-pub mod Raising
-pub mod Longer
 pub mod Standing
-pub mod Ring
 pub mod Log
 pub mod Prefix
 pub mod Journal

@@ -7,8 +7,8 @@ use Rattle.fx_plain.specs.Tree.{Tree}
 use Rattle.fx_plain.specs.Bare.{bare}
 use Rattle.fx_history.specs.declared.entry.Entry.{Entry}
 use Rattle.fx_history.specs.History.{tree_at}
-use Rattle.fx_image.specs.Chance.{NotByChance}
-use Rattle.fx_image.specs.Ring.{BeginsAs}
+use Rattle.fx_log.specs.Chance.{NotByChance}
+use Rattle.fx_disk.specs.Began.{BeganAs}
 use Rattle.fx_image.specs.Standing.{Transactions, IsImage, HasRoom, HasAmpleRoom, kept}
 
 -- The image stands for the tree after a prefix of the history, without what files hold. The prefix has each
@@ -24,7 +24,7 @@ pub record IsPrefix (size : ℕ) (ample : Type 0) (tree : Tree) (base : ℕ) (hi
 
 -- The disk began as an image with this superblock and these transactions, which stands for the tree.
 pub record Began (size from base : ℕ) (tree : Tree) (r : DiskRecord) (image : List (List ℕ)) (f : Fields) (txns : Transactions) : Type 0 where
-  pub begins : BeginsAs r from image
+  pub begins : BeganAs r from image
   pub image_is : IsImage size image f txns tree
   pub base_is : kept f txns ≡ base
 

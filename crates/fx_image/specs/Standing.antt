@@ -10,7 +10,7 @@ use Rattle.fx_jblock.specs.declared.Start.{Start}
 use Rattle.fx_journal.specs.declared.stream.StreamBlock.{StreamBlock}
 use Rattle.fx_journal.specs.Stream.{IsStream}
 use Rattle.fx_record.specs.Txns.{IsTxns}
-use Rattle.fx_image.specs.Chosen.{Chooses, start_of, layers_of}
+use Rattle.fx_log.specs.Chosen.{Chooses, start_of, layers_of}
 
 -- transactions: numbers and their items
 abbrev pub Transactions : Type 0

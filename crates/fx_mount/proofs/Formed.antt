@@ -22,7 +22,7 @@ use Rattle.fx_super.specs.Chosen.{IsChosen}
 use Rattle.fx_super.specs.declared.choice.Which.TheVariants.{A}
 use Rattle.fx_super.proofs.Blocks as blocks
 use Rattle.fx_super.proofs.Chosen.{zeros_have_no_magic}
-use Rattle.fx_image.specs.Chosen.{start_of}
+use Rattle.fx_log.specs.Chosen.{start_of}
 use Rattle.fx_image.specs.Standing.{HasAmpleRoom, IsImage}
 use Rattle.fx_mount.specs.Formatted.{IsFormatted, IsLaidOut}
 use Rattle.fx_store.specs.Zeros.{zero_bytes}

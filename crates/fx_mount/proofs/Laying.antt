@@ -7,16 +7,16 @@ use Rattle.fx_disk.specs.Record.{Call, Write, Flush, DiskRecord, Cell, cell_now}
 use Rattle.fx_disk.specs.Steps.{Holds, IsRecordOf, Writes, Flushes, MadeOrNot, with_call, with_write, with_flush}
 use Rattle.fx_disk.specs.Settled.{HasNoFailed}
 use Rattle.fx_disk.proofs.Cells.{IsFixed, fixed-after, after-write, other-block, after-good_flush}
-use Rattle.fx_image.specs.Longer.{BothTell, GoesOn}
-use Rattle.fx_image.proofs.Going.{goes_on-same, goes_on-then, goes_on-call}
-use Rattle.fx_image.proofs.Told.{IsTold, good-made}
+use Rattle.fx_disk.specs.Longer.{BothTell, IsLonger}
+use Rattle.fx_disk.proofs.Longer.{longer_same, longer_then, longer_call}
+use Rattle.fx_disk.proofs.Made.{IsTold, good-made}
 use Rattle.fx_mount.specs.Formatted.{IsLaidOut}
 use Rattle.fx_store.specs.Zeros.{zero_bytes}
 use Rattle.fx_mount.specs.Laying.{IsLaid, KeepsFirst}
 
 pub laid-none : (r : DiskRecord) → KeepsFirst 1 r r
 laid-none r = record {
-  goes = goes_on-same r;
+  goes = longer_same r;
   first_is = refl;
   zeros = λ b least below. absurd (omega arith);
   rest = λ b least. refl;
@@ -36,7 +36,7 @@ module _ (size calls : ℕ) (r s : DiskRecord) (ok : IsRecordOf size calls s) (f
   -- the next block of zeros
   pub laid-zeros : (at : ℕ) (held : List ℕ) → 1 ≤ at → at < size → Holds zero_bytes true held → IsLaid at first r s → IsLaid (at + 1) first r (with_write s at zero_bytes true held)
   laid-zeros at held least lt holds h = record {
-    goes = goes_on-then r s (with_write s at zero_bytes true held) h.goes (goes_on-call s (Write at zero_bytes true) (set s.contents at held));
+    goes = longer_then r s (with_write s at zero_bytes true held) h.goes (longer_call s (Write at zero_bytes true) (set s.contents at held));
     first_is = let ne : 0 ≢ at = λ e. absurd (omega arith) in get_or-set_other s.contents at 0 held [] ne ∙ h.first_is;
     zeros = λ b from below. by_block at b (get_or (set s.contents at held) b [] ≡ zero_bytes)
         (λ e. subst (λ (k : ℕ). get_or (set s.contents at held) k [] ≡ zero_bytes) e (get_or-set_same s.contents at held [] (omega (arith, ok.contents_size)) ∙ holds.good refl))
@@ -48,7 +48,7 @@ module _ (size calls : ℕ) (r s : DiskRecord) (ok : IsRecordOf size calls s) (f
   -- block 0
   pub laid-first : (end : ℕ) (bytes held : List ℕ) → 1 ≤ end → 0 < size → Holds bytes true held → IsLaid end first r s → IsLaid end bytes r (with_write s 0 bytes true held)
   laid-first end bytes held least lt holds h = record {
-    goes = goes_on-then r s (with_write s 0 bytes true held) h.goes (goes_on-call s (Write 0 bytes true) (set s.contents 0 held));
+    goes = longer_then r s (with_write s 0 bytes true held) h.goes (longer_call s (Write 0 bytes true) (set s.contents 0 held));
     first_is = get_or-set_same s.contents 0 held [] (omega (arith, ok.contents_size)) ∙ holds.good refl;
     zeros = λ b from below. let ne : b ≢ 0 = λ e. absurd (omega arith) in get_or-set_other s.contents 0 b held [] ne ∙ h.zeros b from below;
     rest = λ b from. let ne : b ≢ 0 = λ e. absurd (omega arith) in get_or-set_other s.contents 0 b held [] ne ∙ h.rest b from;
@@ -58,7 +58,7 @@ module _ (size calls : ℕ) (r s : DiskRecord) (ok : IsRecordOf size calls s) (f
 -- a good flush
 pub laid-flush : (end : ℕ) (first : List ℕ) (r s : DiskRecord) → IsLaid end first r s → IsLaid end first r (with_flush s true)
 laid-flush end first r s h = record {
-  goes = goes_on-then r s (with_flush s true) h.goes (goes_on-call s (Flush true) s.contents);
+  goes = longer_then r s (with_flush s true) h.goes (longer_call s (Flush true) s.contents);
   first_is = h.first_is;
   zeros = h.zeros;
   rest = h.rest;

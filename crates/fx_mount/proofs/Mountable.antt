@@ -7,9 +7,9 @@ use Rattle.fx_super.specs.Super.{Fields, fields_of}
 use Rattle.fx_super.specs.Chosen.{IsChosen}
 use Rattle.fx_journal.specs.Stream.{IsStream}
 use Rattle.fx_record.specs.Txns.{txns_of}
-use Rattle.fx_image.specs.Chosen.{Chooses, start_of}
+use Rattle.fx_log.specs.Chosen.{Chooses, start_of}
 use Rattle.fx_image.specs.Standing.{Transactions}
-use Rattle.fx_image.proofs.Images.{one_super, stream_chosen}
+use Rattle.fx_log.proofs.SuperChoice.{one_super, stream_chosen}
 use Rattle.fx_store.specs.Mounted.{Opens}
 use Rattle.fx_store.specs.Opening.{CanBegin, IsRead}
 use Rattle.fx_store.specs.declared.opening.Contents.{Contents}

@@ -13,9 +13,10 @@ use Rattle.fx_record.specs.Txns.{IsTxns, IsBadRecord}
 use Rattle.fx_record.proofs.Fronts.{not_both, one_answer}
 use Rattle.fx_super.specs.Super.{Fields}
 use Rattle.fx_super.specs.Chosen.{HasNoChosen}
-use Rattle.fx_image.specs.Chosen.{Chooses, layers_of, start_of}
+use Rattle.fx_log.specs.Chosen.{Chooses, layers_of, start_of}
 use Rattle.fx_image.specs.Standing.{HasRoom, IsImage, Transactions, items_after, kept, pieces_of}
-use Rattle.fx_image.proofs.Images.{images_same, images_super, one_super, rules_chosen, stream_chosen}
+use Rattle.fx_image.proofs.OneImage.{images_same, images_super}
+use Rattle.fx_log.proofs.SuperChoice.{one_super, rules_chosen, stream_chosen}
 use Rattle.fx_mount.specs.declared.fault.MountFault.{MountFault}
 use Rattle.fx_mount.specs.declared.fault.MountFault.TheVariants as faults
 use Rattle.fx_mount.specs.Found.{HasStream, HasSuper, IsMountable, IsMountCause, IsMountedAt, IsRefused}

@@ -13,7 +13,7 @@ use Rattle.fx_jblock.specs.declared.Start.{Start}
 use Rattle.fx_journal.specs.declared.stream.StreamBlock.{StreamBlock}
 use Rattle.fx_journal.specs.Stream.{IsStream}
 use Rattle.fx_record.specs.Txns.{IsTxns, IsBadRecord}
-use Rattle.fx_image.specs.Chosen.{Chooses, start_of, layers_of}
+use Rattle.fx_log.specs.Chosen.{Chooses, start_of, layers_of}
 use Rattle.fx_image.specs.Standing.{Transactions, IsImage, HasRoom, items_after, kept, pieces_of}
 use Rattle.fx_store.specs.declared.opening.BeginFault.{BeginFault}
 use Rattle.fx_store.specs.declared.opening.BeginFault.TheVariants as begin

@@ -10,7 +10,7 @@ use Rattle.fx_nodes.specs.Table.{PlainTable}
 use Rattle.fx_jblock.specs.declared.Start.{Start}
 use Rattle.fx_journal.specs.declared.stream.StreamBlock.{StreamBlock}
 use Rattle.fx_journal.specs.Stream.{IsStream}
-use Rattle.fx_image.specs.Chosen.{start_of}
+use Rattle.fx_log.specs.Chosen.{start_of}
 use Rattle.fx_image.specs.Standing.{Transactions, StandsFor, items_after, lists_of}
 use Rattle.fx_image.specs.Journal.{IsReading}
 use Rattle.fx_mount.specs.Found.{IsRefused}

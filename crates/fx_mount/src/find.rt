@@ -4,7 +4,7 @@ ghost use Rattle.std.specs.Option.{IfSome};
 ghost use Rattle.fx_base.specs.Causes.{Rose};
 ghost use Rattle.fx_super.specs.Super.{Decoded, KeepsRules, fields_of};
 ghost use Rattle.fx_super.specs.Chosen.{IsChosen};
-ghost use Rattle.fx_image.specs.Chosen.{Chooses, layers_of};
+ghost use Rattle.fx_log.specs.Chosen.{Chooses, layers_of};
 ghost use Rattle.fx_mount.specs.Found.{AreSlots, HasSuper, IsMountCause, IsRefused, first_slot, second_slot};
 
 use crate::fault::MountFault;

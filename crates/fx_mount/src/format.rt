@@ -1,7 +1,7 @@
 //! Formatting a disk.
 ghost use Rattle.std.specs.Prelude.{◌≡◌, ℕ, ◌+◌, ◌*◌, ◌<◌, ◌≤◌, IfErr, OnOk, OnErr};
 ghost use Rattle.fx_base.specs.Causes.{Rose};
-ghost use Rattle.fx_image.specs.Longer.{BothTell, Extends};
+ghost use Rattle.fx_disk.specs.Longer.{BothTell, Extends};
 ghost use Rattle.fx_mount.specs.Formatted.{HasRoomFor, IsFormatted, IsLaidOut, IsMkfsCause};
 ghost use Rattle.fx_mount.specs.Laying.{IsLaid, KeepsFirst};
 ghost use Rattle.fx_store.specs.Calls.{HasFailedLast};

@@ -12,7 +12,7 @@ ghost use Rattle.fx_record.specs.Txns as records;
 ghost use Rattle.fx_record.specs.Txns.{IsTxns, txns_of};
 ghost use Rattle.fx_journal.specs.Stream.{IsSeries};
 ghost use Rattle.fx_super.specs.Super.{KeepsRules, fields_of};
-ghost use Rattle.fx_image.specs.Chosen.{Chooses, layers_of, start_of};
+ghost use Rattle.fx_log.specs.Chosen.{Chooses, layers_of, start_of};
 ghost use Rattle.fx_image.specs.Standing.{HasRoom, StandsFor, Transactions, items_after, kept, lists_of, pieces_of};
 ghost use Rattle.fx_mount.specs.Found.{HasStream, HasSuper, IsMountCause};
 ghost use Rattle.fx_mount.specs.Growing.{AreParentsFirst, HasNodes, HasPaths, MayStand, empty_node};

@@ -4,7 +4,7 @@ use Rattle.std.specs.Prelude.{Option, Some, None, IfSome, slice_index_or}
 use Rattle.fx_disk.specs.Record.{DiskRecord}
 use Rattle.fx_super.specs.Super.{Fields, KeepsRules, IsLayer}
 use Rattle.fx_super.specs.declared.superblock.TheConstants.{MAX_GENERATION}
-use Rattle.fx_image.specs.Chosen.{next_generation}
+use Rattle.fx_log.specs.Chosen.{next_generation}
 
 pub if-more : (o : Option DiskRecord) (P Q : DiskRecord → Type 0) → ((r : DiskRecord) → P r → Q r) → IfSome o P → IfSome o Q
 if-more None P Q f h = tt

@@ -13,16 +13,16 @@ use Rattle.fx_jblock.specs.declared.Start.{Start}
 use Rattle.fx_journal.specs.Ring.{IsRing, KeepsBuffers, RingState, begun, blocks_out, live}
 use Rattle.fx_pool.specs.Region.{IsSound, Region, Run}
 use Rattle.fx_record.specs.Txns.{txns_of}
-use Rattle.fx_image.specs.Chosen.{Chooses, next_generation, start_of}
+use Rattle.fx_log.specs.Chosen.{Chooses, next_generation, start_of}
 use Rattle.fx_image.specs.Standing.{Transactions, items_after, lists_of}
 use Rattle.fx_image.specs.Journal.{HasJournal, IsJournal}
-use Rattle.fx_image.proofs.Beginnings.{journal-begun, series-next}
+use Rattle.fx_image.proofs.JournalStart.{journal-begun, series-next}
 use Rattle.fx_image.proofs.JournalTold.{ReadsAs, told-raise, told-begun-flush, told-mounted}
-use Rattle.fx_image.proofs.Images.{one_super, stream_chosen}
+use Rattle.fx_log.proofs.SuperChoice.{one_super, stream_chosen}
 use Rattle.fx_image.proofs.Mounted.{mounted-begun}
-use Rattle.fx_image.proofs.Untouched.{told-unfinished}
+use Rattle.fx_image.proofs.MountUnfinished.{told-unfinished}
 use Rattle.fx_image.specs.Prefix.{KeepsPrefix}
-use Rattle.fx_image.specs.Raising.{ChoosesNext, ChoosesSince}
+use Rattle.fx_log.specs.Raising.{ChoosesNext, ChoosesSince}
 use Rattle.fx_store.specs.Mounted.{KeepsImages, Opens}
 use Rattle.fx_store.specs.Inside.{IsStore}
 use Rattle.fx_store.specs.Opening.{FitsTogether, IsOn, IsPrepared, IsRead, Read, journal_of, read_of, ring_of}

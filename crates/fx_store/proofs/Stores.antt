@@ -28,16 +28,17 @@ use Rattle.fx_pool.specs.Region.{Region}
 use Rattle.fx_journal.specs.Ring.{RingState, IsRing, KeepsBuffers, Queued, HoldsQueue, Appended, begun, blocks_out, next_block, padded, padded_by, padding, run_blocks, texts, without_first}
 use Rattle.fx_journal.specs.Writing.{block_at, first_bytes}
 use Rattle.fx_image.specs.Log.{AreItemsOf}
-use Rattle.fx_image.specs.Ring.{HasRecords}
+use Rattle.fx_log.specs.Ring.{HasRecords}
 use Rattle.fx_image.specs.Standing.{Transactions, StandsFor, items_after, lists_of}
 use Rattle.fx_image.specs.Journal.{Journal, IsJournal, IsOnDisk, IsWrittenOut, commit_bytes, with_commit, with_closed, with_written, with_settled}
 use Rattle.fx_image.specs.Prefix.{KeepsPrefix, KeepsAll}
-use Rattle.fx_image.specs.Raising.{ChoosesSince, ChoosesNext}
+use Rattle.fx_log.specs.Raising.{ChoosesSince, ChoosesNext}
 use Rattle.fx_image.specs.Mounted.{IsMounted}
-use Rattle.fx_image.proofs.Logs.{log_now}
-use Rattle.fx_image.proofs.LogSteps.{after_one}
+use Rattle.fx_image.proofs.Replay.{log_now}
+use Rattle.fx_image.proofs.ReplaySteps.{after_one}
 use Rattle.fx_image.proofs.NextCommit.{id_now, store_now, below-now, id-low, store-low, next-commit}
-use Rattle.fx_image.proofs.Mounted.{made-counts, mounted-commit, mounted-flush-tried, mounted-padded, mounted-promised, mounted-settled, mounted-tried, mounted-written, mounted-all, settled-out}
+use Rattle.fx_disk.proofs.Made.{made-counts}
+use Rattle.fx_image.proofs.Mounted.{mounted-commit, mounted-flush-tried, mounted-padded, mounted-promised, mounted-settled, mounted-tried, mounted-written, mounted-all, settled-out}
 use Rattle.fx_script.specs.declared.script.Task.{Task}
 use Rattle.fx_store.specs.Line.{entry_of}
 use Rattle.fx_store.specs.Mounted.{KeepsImages, KeepsWhole, Opens}

@@ -3,7 +3,7 @@ use Rattle.std.specs.Prelude.{ℕ, List}
 use Rattle.fx_plain.specs.Tree.{Tree}
 use Rattle.fx_history.specs.declared.entry.Entry.{Entry}
 use Rattle.fx_disk.specs.Record.{DiskRecord}
-use Rattle.fx_image.specs.Raising.{ChoosesSince, ChoosesNext}
+use Rattle.fx_log.specs.Raising.{ChoosesSince, ChoosesNext}
 use Rattle.fx_image.specs.Standing.{Transactions, StandsFor, items_after}
 use Rattle.fx_image.specs.Prefix.{KeepsPrefix, KeepsAll}
 

@@ -12,7 +12,7 @@ use Rattle.fx_journal.specs.Stream.{IsStream}
 use Rattle.fx_journal.specs.declared.stream.StreamBlock.{StreamBlock}
 use Rattle.fx_pool.specs.Region.{Region}
 use Rattle.fx_record.specs.Txns.{txns_of}
-use Rattle.fx_image.specs.Chosen.{start_of}
+use Rattle.fx_log.specs.Chosen.{start_of}
 use Rattle.fx_image.specs.Standing.{StandsFor, Transactions, items_after, lists_of}
 use Rattle.fx_image.specs.Journal.{IsReading, Journal, begun_journal}
 use Rattle.fx_store.specs.Inside.{HasBuffers}

@@ -5,10 +5,10 @@ ghost use Rattle.fx_base.specs.Causes.{Rose};
 ghost use Rattle.fx_super.specs.Super.{Fields, IsSuper, KeepsRules, fields_of};
 ghost use Rattle.fx_super.specs.Chosen.{IsChosen};
 ghost use Rattle.fx_super.specs.declared.superblock.TheConstants.{MAX_GENERATION};
-ghost use Rattle.fx_image.specs.Chosen.{next_generation};
-ghost use Rattle.fx_image.specs.Raising.{ChoosesNext, ChoosesSince};
+ghost use Rattle.fx_log.specs.Chosen.{next_generation};
+ghost use Rattle.fx_log.specs.Raising.{ChoosesNext, ChoosesSince};
 ghost use Rattle.fx_image.specs.Journal.{HasJournal};
-ghost use Rattle.fx_image.specs.Longer.{Extends};
+ghost use Rattle.fx_disk.specs.Longer.{Extends};
 ghost use Rattle.fx_store.specs.Calls.{HasFailedLast};
 ghost use Rattle.fx_store.specs.Opening.{FitsTogether, IsOn, Read, journal_of};
 

@@ -9,7 +9,7 @@ ghost use Rattle.fx_script.specs.declared.script.Task.{Task};
 ghost use Rattle.fx_script.specs.Print.{StepKeepsRules};
 ghost use Rattle.fx_history.specs.History.{settle};
 ghost use Rattle.fx_history.specs.Transcript.{EndsNext};
-ghost use Rattle.fx_image.specs.Longer.{Extends};
+ghost use Rattle.fx_disk.specs.Longer.{Extends};
 ghost use Rattle.fx_store.specs.Mounted.{KeepsImages, KeepsWhole, Opens};
 ghost use Rattle.fx_store.specs.Line.{Changes, Looks, Syncs};
 ghost use Rattle.fx_store.specs.Calls.{IsFlushedBy, HasFailedLast, flushes};

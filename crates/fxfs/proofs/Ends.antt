@@ -6,12 +6,13 @@ use Rattle.fx_base.specs.Causes.{Rose}
 use Rattle.fx_disk.specs.Record.{DiskRecord}
 use Rattle.fx_io.specs.Told.{Takes, TakesFront, GivesAtMost}
 use Rattle.fx_io.proofs.Pieces.{takes_more}
-use Rattle.fx_image.specs.Raising.{ChoosesSince, ChoosesNext}
+use Rattle.fx_log.specs.Raising.{ChoosesSince, ChoosesNext}
 use Rattle.fx_image.specs.Standing.{Transactions}
 use Rattle.fx_image.specs.Prefix.{KeepsPrefix, KeepsAll}
-use Rattle.fx_image.proofs.Going.{extends-same, extends-then}
-use Rattle.fx_image.proofs.Told.{IsTold, told-begun}
-use Rattle.fx_image.proofs.Untouched.{told-untouched}
+use Rattle.fx_disk.proofs.Longer.{extends_same, extends_then}
+use Rattle.fx_disk.proofs.Made.{IsTold}
+use Rattle.fx_log.proofs.SuperTold.{told-begun}
+use Rattle.fx_image.proofs.MountUnfinished.{told-untouched}
 use Rattle.fx_plain.specs.Tree.{Tree}
 use Rattle.fx_script.specs.declared.script.Task.{Task}
 use Rattle.fx_history.specs.declared.entry.Entry.{Entry}
@@ -38,7 +39,7 @@ prints_then (Ok x) a b c p q first grows whole front rose = inl (takes_more a.by
 prints_then (Err e) a b c p q first grows whole front rose = inr (record { front = front_after a.bytes b.bytes c.bytes p q first front; rose = omega (arith, rose) })
 
 goes_on_then : (a b c : DiskSeen) → GoesOn a b → GoesOn b c → GoesOn a c
-goes_on_then a b c g h = record { size = h.size ∙ g.size; extends = extends-then a.told b.told c.told g.extends h.extends; calls = omega (arith, g.calls, h.calls); faults = omega (arith, g.faults, h.faults) }
+goes_on_then a b c g h = record { size = h.size ∙ g.size; extends = extends_then a.told b.told c.told g.extends h.extends; calls = omega (arith, g.calls, h.calls); faults = omega (arith, g.faults, h.faults) }
 
 keeps_since : (o : Option DiskRecord) (size from calls : ℕ) (txns : Transactions) (base : ℕ) (history : List Entry) → from ≡ calls → IfSome o (KeepsImages size from txns base history) → IfSome o (ChoosesSince calls)
 keeps_since None size from calls txns base history e k = tt
@@ -222,7 +223,7 @@ unasked_ends disk source_before source_after sink_before sink_after end told sto
     let after : Outside = record { disk = disk; source = source_after; sink = sink_after } in
     record {
       did = not_asked end.stop before after end (record { stopped = stopped; untouched = record { told = refl; calls = refl }; prefix = λ opening base. told-untouched disk.size disk.calls opening base disk.told told }) why;
-      disk = record { size = refl; extends = extends-same disk.told disk.told refl; calls = omega arith; faults = omega arith };
+      disk = record { size = refl; extends = extends_same disk.told disk.told refl; calls = omega arith; faults = omega arith };
       images = told-begun disk.size disk.calls disk.told told;
       settled = subst (All (λ (entry : Entry). entry.settled ≤ disk.calls)) (sym stopped.idle.history) (λ i d l. absurd (omega arith));
       source = most;

@@ -6,9 +6,9 @@ use Rattle.std.proofs.lemmas.List.{get_or_append_left}
 use Rattle.std.proofs.lemmas.List.Sums.{sum_by_push}
 use Rattle.fx_disk.specs.Record.{Call, Flush, DiskRecord, call_at}
 use Rattle.fx_disk.specs.Loose.{IsGoodFlush}
-use Rattle.fx_image.specs.Longer as longer
-use Rattle.fx_image.specs.Longer.{Extends}
-use Rattle.fx_image.proofs.Told.{IsTold}
+use Rattle.fx_disk.specs.Longer as longer
+use Rattle.fx_disk.specs.Longer.{Extends}
+use Rattle.fx_disk.proofs.Made.{IsTold}
 use Rattle.fx_script.specs.declared.script.Task.{Task}
 use Rattle.fx_history.specs.declared.outcome.EndKind.{EndKind}
 use Rattle.fx_history.specs.declared.outcome.EndKind.TheVariants as ends
@@ -22,7 +22,7 @@ use Rattle.fxfs.proofs.Runs.{end_of, count_more, pairs_more}
 -- ---- each sync that a line tells
 
 -- an earlier call stands where it stood
-call_stays : (r s : DiskRecord) (place : ℕ) → longer.GoesOn r s → place < length r.calls → call_at s.calls place ≡ call_at r.calls place
+call_stays : (r s : DiskRecord) (place : ℕ) → longer.IsLonger r s → place < length r.calls → call_at s.calls place ≡ call_at r.calls place
 call_stays r s place g lt = ap (λ (cs : List Call). call_at cs place) g.calls ∙ get_or_append_left r.calls g.further (Flush false) place lt
 
 -- a good flush stays one

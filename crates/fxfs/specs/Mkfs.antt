@@ -1,7 +1,7 @@
 -- What `mkfs` does.
 use Rattle.std.specs.Prelude.{◌≡◌, ℕ, ◌≤◌, ◌+◌}
 use Rattle.fx_base.specs.Causes.{Rose}
-use Rattle.fx_image.specs.Longer.{BothTell}
+use Rattle.fx_disk.specs.Longer.{BothTell}
 use Rattle.fx_mount.specs.Formatted.{IsFormatted, HasRoomFor}
 use Rattle.fx_store.specs.Calls.{HasFailedLast}
 use Rattle.fxfs.specs.declared.ended.Stop.{Stop}

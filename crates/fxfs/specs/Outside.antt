@@ -2,7 +2,7 @@
 use Rattle.std.specs.Prelude.{◌≡◌, ◌⊎◌, ℕ, ◌≤◌, Bool, List, [], Option}
 use Rattle.fx_base.specs.Causes.{Rose}
 use Rattle.fx_disk.specs.Record.{DiskRecord}
-use Rattle.fx_image.specs.Longer.{Extends}
+use Rattle.fx_disk.specs.Longer.{Extends}
 use Rattle.fx_io.specs.Told.{Takes, TakesFront}
 use Rattle.fx_history.specs.declared.entry.Entry.{Entry}
 use Rattle.fx_history.specs.Outcome.{LineEnd}

@@ -4,7 +4,7 @@ use Rattle.std.specs.Option.{IfSome}
 use Rattle.fx_disk.specs.Record.{DiskRecord, call_at}
 use Rattle.fx_disk.specs.Loose.{IsGoodFlush}
 use Rattle.fx_base.specs.Causes.{Rose}
-use Rattle.fx_image.specs.Raising.{ChoosesSince, ChoosesNext}
+use Rattle.fx_log.specs.Raising.{ChoosesSince, ChoosesNext}
 use Rattle.fx_image.specs.Standing.{Transactions}
 use Rattle.fx_image.specs.Prefix.{KeepsPrefix, KeepsAll}
 use Rattle.fx_io.specs.Told.{GivesAtMost}

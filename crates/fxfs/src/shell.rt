@@ -2,7 +2,7 @@
 ghost use Rattle.std.specs.Prelude.{◌≡◌, ◌≢◌, ◌⊎◌, ℕ, ◌+◌, ◌<◌, ◌≤◌, [], true, false, None, Err, All, List, length, map, IfOk, IfErr, IsTrue, vec_capacity};
 ghost use Rattle.std.specs.Option.{IfSome};
 ghost use Rattle.fx_base.specs.Causes.{Rose};
-ghost use Rattle.fx_image.specs.Longer.{Extends};
+ghost use Rattle.fx_disk.specs.Longer.{Extends};
 ghost use Rattle.fx_io.specs.Told.{GivesAtMost};
 ghost use Rattle.fx_plain.specs.Tree.{Tree};
 ghost use Rattle.fx_script.specs.declared.script.Task.{Task};

@@ -1,4 +1,4 @@
-use Rattle.fx_image.proofs.Images.{images_super, images_same}
+use Rattle.fx_image.proofs.OneImage.{images_super, images_same}
 use Rattle.fx_image.proofs.image_laws.Goals as goal
 
 pub returns-clause-superblock : goal.returns-clause-superblock

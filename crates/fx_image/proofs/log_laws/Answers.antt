@@ -1,5 +1,5 @@
-use Rattle.fx_image.proofs.Logs.{log_none, log_prefix, log_settle}
-use Rattle.fx_image.proofs.LogSteps.{log_step, step_are_items, step_ascends, step_numbers}
+use Rattle.fx_image.proofs.Replay.{log_none, log_prefix, log_settle}
+use Rattle.fx_image.proofs.ReplaySteps.{log_step, step_are_items, step_ascends, step_numbers}
 use Rattle.fx_image.proofs.log_laws.Goals as goal
 
 pub returns-clause-none : goal.returns-clause-none

@@ -2,7 +2,7 @@ use Rattle.std.proofs.Common.{◌≡◌, ℕ, ◌+◌, ◌≤◌, ◌<◌, ◌�
 use Rattle.std.specs.Prelude.{Option}
 use Rattle.fx_disk.specs.Record.{DiskRecord}
 use Rattle.fx_disk.specs.Steps.{Writes}
-use Rattle.fx_image.proofs.Told.{good-made, good-counted}
+use Rattle.fx_disk.proofs.Made.{good-made, good-counted}
 use Rattle.fx_store.specs.Zeros.{zero_bytes}
 use Rattle.fx_mount.proofs.Laying.{both-begun, both-zeros}
 use Rattle.fx_mount.proofs.format.clear.Goals as goal

@@ -1,5 +1,5 @@
 use Rattle.std.proofs.Common.{◌≡◌, ℕ, ◌+◌, ◌≤◌}
-use Rattle.fx_image.specs.Longer.{BothTell}
+use Rattle.fx_disk.specs.Longer.{BothTell}
 use Rattle.fx_mount.specs.Laying.{KeepsFirst}
 use Rattle.fx_mount.proofs.format.clear.Given as goal
 

@@ -4,7 +4,7 @@ use Rattle.fx_disk.specs.Record.{DiskRecord}
 use Rattle.fx_super.specs.Super.{Fields, fields_of}
 use Rattle.fx_jblock.specs.declared.Start.{Start}
 use Rattle.fx_journal.specs.Stream.{IsSeries, IsStream}
-use Rattle.fx_image.specs.Chosen.{Chooses, start_of}
+use Rattle.fx_log.specs.Chosen.{Chooses, start_of}
 use Rattle.fx_mount.specs.Reading.{IsReadFault}
 use Rattle.fx_mount.proofs.Contents.{cause_read, series_short}
 use Rattle.fx_store.proofs.Keeps.{if-both}

@@ -5,12 +5,13 @@ use Rattle.fx_disk.specs.Steps.{IsRecordOf, Writes, Flushes, MadeOrNot}
 use Rattle.fx_super.specs.Super.{Fields, IsSuper}
 use Rattle.fx_super.specs.declared.choice.Which.{Which}
 use Rattle.fx_super.specs.Chosen.{IsChosen, block_number, other}
-use Rattle.fx_image.specs.Chosen.{next_generation}
-use Rattle.fx_image.specs.Raising.{ChoosesNext, ChoosesSince}
+use Rattle.fx_log.specs.Chosen.{next_generation}
+use Rattle.fx_log.specs.Raising.{ChoosesNext, ChoosesSince}
 use Rattle.fx_image.specs.Journal.{HasJournal}
 use Rattle.fx_store.specs.Opening.{FitsTogether, IsOn, Read, journal_of}
 use Rattle.fx_store.proofs.NewStores.{told-written, told-flushed}
-use Rattle.fx_image.proofs.Told.{told-raise, told-raised, told-flush, good-made, good-flush, on_ok-from}
+use Rattle.fx_log.proofs.SuperTold.{told-raise, told-raised, told-flush}
+use Rattle.fx_disk.proofs.Made.{good-made, flush-made, on_ok-from}
 use Rattle.fx_store.proofs.raise.put_super.Goals as goal
 
 pub returns-in_err-write-clause-since : goal.returns-in_err-write-clause-since
@@ -51,7 +52,7 @@ returns-clause-next g c =
     (good-made m n (g.D.Disk.last_made c.write.new.self) (Writes t0 t1 c.block.result c.args.block.now true) (t1 ≡ t0) c.in_ok-write.ensures.told) in
     on_ok-from c.flush.result ((f : Fields) → IsSuper c.args.block.now (next_generation f) → IfSome t0 (λ r. IsChosen r.contents c.args.chosen f) → IfSome t2 (ChoosesNext m))
     (λ e f next is. told-raised (g.D.Disk.size c.args.disk.now) m t0 c.args.chosen f c.args.block.now next t1 t2 (g.met.D.Disk.told_ok c.args.disk.now) is w
-    (good-flush t1 t2 n (g.D.Disk.calls c.flush.new.self) (g.D.Disk.last_made c.flush.new.self) (is_ok c.flush.result) e c.flush.ensures.told))
+    (flush-made t1 t2 n (g.D.Disk.calls c.flush.new.self) (g.D.Disk.last_made c.flush.new.self) (is_ok c.flush.result) e c.flush.ensures.told))
 
 -- the write, made or not
 written : (size calls counted : ℕ) (before mid : Option DiskRecord) (which : Which) (f : Fields) (read : Read) (bytes : List ℕ) (at : ℕ) (made ok : Bool) → IfSome before (IsRecordOf size calls) → IsSuper bytes (next_generation f) → FitsTogether size f read

@@ -2,8 +2,8 @@ use Rattle.std.specs.Prelude.{IfSome}
 use Rattle.std.proofs.lemmas.Result.{on_ok_weaker}
 use Rattle.fx_super.specs.Super.{Fields, IsSuper, fields_of}
 use Rattle.fx_super.specs.Chosen.{IsChosen}
-use Rattle.fx_image.specs.Chosen.{next_generation}
-use Rattle.fx_image.specs.Raising.{ChoosesNext}
+use Rattle.fx_log.specs.Chosen.{next_generation}
+use Rattle.fx_log.specs.Raising.{ChoosesNext}
 use Rattle.fx_store.proofs.Keeps.{rules-next}
 use Rattle.fx_store.proofs.raise.raise.Goals as goal
 

@@ -4,7 +4,7 @@ use Rattle.fx_history.specs.Transcript.{Session}
 use Rattle.fx_image.specs.Standing.{Transactions}
 use Rattle.fxfs.specs.Outside.{DiskSeen, StreamSeen, End}
 use Rattle.fxfs.specs.Lines.{Flushes, TellsEnd}
-use Rattle.fx_image.proofs.Going.{extends-then}
+use Rattle.fx_disk.proofs.Longer.{extends_then}
 use Rattle.fxfs.proofs.Closes.{finishes}
 use Rattle.fxfs.proofs.Runs.{faults_between}
 use Rattle.fxfs.proofs.Syncing.{syncs_later}
@@ -49,7 +49,7 @@ returns-clause-told g c =
 
 pub returns-clause-extends : goal.returns-clause-extends
 returns-clause-extends g c =
-    extends-then (g.D.Disk.told c.args.store.disk) (g.D.Disk.told c.run-outcomes.new.store.disk) (g.D.Disk.told c.close-is_flushed.result.disk) c.run-outcomes.ensures.extends c.close-is_flushed.ensures.extends
+    extends_then (g.D.Disk.told c.args.store.disk) (g.D.Disk.told c.run-outcomes.new.store.disk) (g.D.Disk.told c.close-is_flushed.result.disk) c.run-outcomes.ensures.extends c.close-is_flushed.ensures.extends
 
 pub returns-clause-synced : goal.returns-clause-synced
 returns-clause-synced g c =

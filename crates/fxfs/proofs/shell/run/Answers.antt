@@ -8,7 +8,7 @@ use Rattle.fx_history.specs.declared.outcome.EndKind.TheVariants as ends
 use Rattle.fx_history.specs.Outcome.{LineEnd}
 use Rattle.fx_history.specs.Transcript.{Session, EndsNext}
 use Rattle.fx_history.proofs.Sessions.{Follows, follows_more, follows_none, session_of}
-use Rattle.fx_image.proofs.Going.{extends-same, extends-then}
+use Rattle.fx_disk.proofs.Longer.{extends_same, extends_then}
 use Rattle.fx_store.specs.Mounted.{Opens}
 use Rattle.fxfs.specs.Lines.{synced_in}
 use Rattle.fxfs.specs.Shell.{AreFaults, AreFull, AreSyncs, syncs_in}
@@ -47,7 +47,7 @@ loop-task-init g c =
       txns = refl;
       from = refl;
       ring = refl;
-      extends = extends-same (g.D.Disk.told store.disk) (g.D.Disk.told store.disk) refl;
+      extends = extends_same (g.D.Disk.told store.disk) (g.D.Disk.told store.disk) refl;
       size = refl;
       faults = omega arith;
     }
@@ -100,7 +100,7 @@ loop-task-preserved g c =
       txns = c.exec-outcome.ensures.txns ∙ invariant.txns;
       from = c.exec-outcome.ensures.from ∙ invariant.from;
       ring = c.exec-outcome.ensures.ring ∙ invariant.ring;
-      extends = extends-then (g.D.Disk.told start.disk) (g.D.Disk.told old.disk) (g.D.Disk.told new.disk) invariant.extends c.exec-outcome.ensures.extends;
+      extends = extends_then (g.D.Disk.told start.disk) (g.D.Disk.told old.disk) (g.D.Disk.told new.disk) invariant.extends c.exec-outcome.ensures.extends;
       size = c.exec-outcome.ensures.size ∙ invariant.size;
       faults = omega (arith, invariant.faults, c.exec-outcome.ensures.faults);
     }

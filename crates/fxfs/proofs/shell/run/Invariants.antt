@@ -2,7 +2,7 @@ use Rattle.std.proofs.Common.{◌≡◌, ◌+◌, ◌≤◌, take, drop, length}
 use Rattle.std.specs.Prelude.{vec_capacity}
 use Rattle.fx_plain.specs.Tree.{Tree}
 use Rattle.fx_history.proofs.Sessions.{Follows}
-use Rattle.fx_image.specs.Longer.{Extends}
+use Rattle.fx_disk.specs.Longer.{Extends}
 use Rattle.fx_store.specs.Mounted.{Opens}
 use Rattle.fxfs.specs.Lines.{faults_in, synced_in}
 use Rattle.fxfs.specs.Shell.{AreFaults, AreFull, AreSyncs, syncs_in}

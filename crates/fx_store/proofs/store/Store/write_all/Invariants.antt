@@ -1,5 +1,5 @@
 use Rattle.std.proofs.Common.{◌≡◌, ◌+◌, ◌≤◌}
-use Rattle.fx_image.specs.Longer.{Extends}
+use Rattle.fx_disk.specs.Longer.{Extends}
 use Rattle.fx_store.proofs.store.Store.write_all.Given as goal
 
 abbrev pub invariant-loop-fault : goal.invariant-loop-fault

@@ -3,9 +3,8 @@ use Rattle.std.specs.Prelude.{Some, None, is_ok}
 use Rattle.fx_journal.specs.Ring.{RingState, next_block}
 use Rattle.fx_journal.specs.Writing.{wrote}
 use Rattle.fx_store.specs.Inside.{IsStore}
-use Rattle.fx_image.specs.Longer.{Extends}
-use Rattle.fx_image.proofs.Going.{extends-write}
-use Rattle.fx_image.proofs.Mounted.{made-counts}
+use Rattle.fx_disk.specs.Longer.{Extends}
+use Rattle.fx_disk.proofs.Made.{extends-write, made-counts}
 use Rattle.fx_store.specs.Mounted.{State}
 use Rattle.fx_store.proofs.Stores.{store-padded, store-queue, store-written, store-tried}
 use Rattle.fx_store.proofs.Writing.{not-both, wrote-block, wrote-nothing, some-unless, no-more, no-fewer, failed-last}

@@ -4,8 +4,8 @@ use Rattle.fx_disk.specs.Record.{DiskRecord, Cell, LeftNow, cell_after}
 use Rattle.fx_disk.specs.Always.{Always}
 use Rattle.fx_disk.specs.Settled.{WasSettled}
 use Rattle.fx_super.specs.Super.{Fields}
-use Rattle.fx_image.specs.Chosen.{next_generation, Chooses, ChoosesEither}
-use Rattle.fx_image.specs.Chance.{HasTrueSupers}
+use Rattle.fx_log.specs.Chosen.{next_generation, Chooses, ChoosesEither}
+use Rattle.fx_log.specs.Chance.{HasTrueSupers}
 
 -- Unless a block is there by chance, the image has this superblock or that of the next generation.
 abbrev pub LeavesEither : Fields → (ℕ → Cell) → ℕ → List (List ℕ) → Type 0

@@ -12,11 +12,13 @@ use Rattle.fx_super.specs.Super.{Fields, IsSuper}
 use Rattle.fx_super.specs.Chosen.{IsChosen, block_of, block_number, other}
 use Rattle.fx_super.specs.declared.choice.Which.{Which}
 use Rattle.fx_super.specs.declared.choice.Which.TheVariants.{A, B}
-use Rattle.fx_image.specs.Chance.{HasTrueSupers}
-use Rattle.fx_image.specs.Chosen.{next_generation, Chooses, ChoosesEither}
-use Rattle.fx_image.specs.Raising.{LeavesEither, BeginsAt, ChoosesSince, ChoosesNext}
+use Rattle.fx_log.specs.Chance.{HasTrueSupers}
+use Rattle.fx_log.specs.Chosen.{next_generation, Chooses, ChoosesEither}
+use Rattle.fx_log.specs.Raising.{LeavesEither, BeginsAt, ChoosesSince, ChoosesNext}
 use Rattle.fx_super.proofs.Chosen.{one_chosen}
-use Rattle.fx_image.proofs.Choosing.{chooses_next, chooses_either}
+use Rattle.fx_log.proofs.SuperChoice.{chooses_next, chooses_either}
+use Rattle.fx_disk.proofs.Flushed.{flushed-bytes, flushed-fixed, left-before}
+use Rattle.fx_disk.proofs.Began.{cell_after-now}
 
 -- what began before a call began before it also in the record after it
 pub begins-before : (r : DiskRecord) (call : Call) (contents : List (List ℕ)) (from : ℕ) (f : Fields) → from ≤ length r.calls → BeginsAt (with_call r call contents) from f → BeginsAt r from f
@@ -25,23 +27,6 @@ begins-before r call contents from f le h = record {
   settled = λ b lt. sym (ap (λ (c : Cell). c.loose) (cell_after-with_call r call contents from b le)) ∙ h.settled b lt;
   chosen = subst (λ (a : List ℕ). Chooses f (a ∷ (cell_after r from 1).bytes ∷ [])) (ap (λ (c : Cell). c.bytes) (cell_after-with_call r call contents from 0 le))
       (subst (λ (b : List ℕ). Chooses f ((cell_after (with_call r call contents) from 0).bytes ∷ b ∷ [])) (ap (λ (c : Cell). c.bytes) (cell_after-with_call r call contents from 1 le)) h.chosen);
-}
-
--- a flush changes no block's bytes, and makes none loose
-pub flushed-bytes : (ok : Bool) (cell : Cell) → (flushed_cell ok cell).bytes ≡ cell.bytes
-flushed-bytes ok cell = elim (ok && not cell.failed) as (λ t. (if t then settled_cell cell else cell).bytes ≡ cell.bytes) [ true ↦ refl | false ↦ refl ]
-
-pub flushed-fixed : (ok : Bool) (cell : Cell) → cell.loose ≡ false → (flushed_cell ok cell).loose ≡ false
-flushed-fixed ok cell e = elim (ok && not cell.failed) as (λ t. (if t then settled_cell cell else cell).loose ≡ false) [ true ↦ refl | false ↦ e ]
-
--- a flush leaves nothing that was not left before it
-pub left-before : (r : DiskRecord) (ok : Bool) (image : List (List ℕ)) → LeftNow (with_flush r ok) image → LeftNow r image
-left-before r ok image left = record {
-  size = left.size;
-  blocks = left.blocks;
-  kept = λ b lt fixed.
-      let c : cell_now (with_flush r ok) b ≡ flushed_cell ok (cell_now r b) = cell_now-with_call r (Flush ok) r.contents b in
-      left.kept b lt (ap (λ (c : Cell). c.loose) c ∙ flushed-fixed ok (cell_now r b) fixed) ∙ ap (λ (c : Cell). c.bytes) c ∙ flushed-bytes ok (cell_now r b);
 }
 
 -- and nothing that is there by chance only before it
@@ -68,10 +53,6 @@ since-flush from r ok h = record {
 
 pub next-flush : (from : ℕ) (r : DiskRecord) (ok : Bool) → from ≤ length r.calls → ChoosesNext from r → ChoosesNext from (with_flush r ok)
 next-flush from r ok le h f begins image left = h f (begins-before r (Flush ok) r.contents from f le begins) image (left-before r ok image left)
-
--- before a further call
-pub cell_after-now : (r : DiskRecord) (b : ℕ) → cell_after r (length r.calls) b ≡ cell_now r b
-cell_after-now r b = ap (λ (cs : List Call). after_calls b cs (cell_first r b)) (take-length r.calls)
 
 module _ (size : ℕ) (r : DiskRecord) (ok : IsRecordOf size (length r.calls) r) (f : Fields) (begins : BeginsAt r (length r.calls) f) where
   fixed-now : (b : ℕ) → b < length r.entry → (cell_now r b).loose ≡ false

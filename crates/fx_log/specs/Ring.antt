@@ -9,18 +9,13 @@ use Rattle.fx_jblock.specs.declared.TheConstants.{RECORD_BYTES}
 use Rattle.fx_journal.specs.declared.stream.StreamBlock.{StreamBlock}
 use Rattle.fx_journal.specs.Stream.{IsStream, place_of}
 use Rattle.fx_journal.specs.Ring.{Queued, IsLinked, first_chain}
-use Rattle.fx_image.specs.Chosen.{Chooses, start_of}
-
--- After the first calls nothing is loose, and the disk reads as this image.
-pub record BeginsAs (r : DiskRecord) (from : ℕ) (image : List (List ℕ)) : Type 0 where
-  pub size : length image ≡ length r.entry
-  pub bytes : (b : ℕ) → b < length r.entry → slice_index_or image b [] ≡ (cell_after r from b).bytes
-  pub settled : WasSettled from r
+use Rattle.fx_log.specs.Chosen.{Chooses, start_of}
+use Rattle.fx_disk.specs.Began.{BeganAs}
 
 -- The disk began as an image in which this superblock is chosen, that of a disk of its size. These blocks
 -- are the stream then, and `place` is the one after them.
-pub record BeginsWith (r : DiskRecord) (from : ℕ) (f : Fields) (image : List (List ℕ)) (read : List StreamBlock) (place : Start) : Type 0 where
-  pub begins : BeginsAs r from image
+pub record BeganWith (r : DiskRecord) (from : ℕ) (f : Fields) (image : List (List ℕ)) (read : List StreamBlock) (place : Start) : Type 0 where
+  pub begins : BeganAs r from image
   pub chosen : Chooses f image
   pub blocks : f.blocks ≡ length r.entry
   pub stream : IsStream image f.ring f.generation (start_of f) read place

@@ -13,13 +13,14 @@ use Rattle.fx_jblock.specs.declared.Start.{Start}
 use Rattle.fx_journal.specs.declared.stream.StreamBlock.{StreamBlock}
 use Rattle.fx_super.specs.Super.{Fields}
 use Rattle.fx_image.specs.Standing.{Transactions, IsImage, StandsFor, HasAmpleRoom, items_after, kept}
-use Rattle.fx_image.specs.Ring.{BeginsAs, BeginsWith}
+use Rattle.fx_disk.specs.Began.{BeganAs}
+use Rattle.fx_log.specs.Ring.{BeganWith}
 use Rattle.fx_image.specs.Prefix.{IsPrefix, Began, KeepsPrefix}
 use Rattle.fx_image.specs.Journal.{HasJournal, IsReading, begun_journal}
-use Rattle.fx_image.proofs.Beginnings.{stands-bare}
-use Rattle.fx_image.proofs.Journaled.{began-super, began-txns}
-use Rattle.fx_image.proofs.Keeping.{cell_after-now}
-use Rattle.fx_image.proofs.Lasting.{StandsByChance, keeps-start}
+use Rattle.fx_image.proofs.JournalStart.{stands-bare}
+use Rattle.fx_image.proofs.PrefixNow.{began-super, began-txns}
+use Rattle.fx_disk.proofs.Began.{cell_after-now, left-first}
+use Rattle.fx_image.proofs.PrefixCalls.{StandsByChance, keeps-start}
 
 -- ---- nothing was written
 
@@ -41,14 +42,6 @@ stands-first size image tree base m f txns is same = record {
   };
 }
 
--- where nothing is loose, what is left is what the disk began with
-left-first : (r : DiskRecord) (image left : List (List ℕ)) → BeginsAs r (length r.calls) image → LeftNow r left → image ≡ left
-left-first r image left began is = ext_get_or [] image left (began.size ∙ sym is.size)
-    (λ b lt.
-    let below : b < length r.entry = omega (arith, began.size) in
-    let fixed : (cell_now r b).loose ≡ false = sym (ap (λ (c : Cell). c.loose) (cell_after-now r b)) ∙ began.settled b below in
-    began.bytes b below ∙ ap (λ (c : Cell). c.bytes) (cell_after-now r b) ∙ sym (is.kept b below fixed))
-
 pub keeps-untouched : (size : ℕ) (tree : Tree) (base : ℕ) (r : DiskRecord) → KeepsPrefix size (length r.calls) tree base [] r
 keeps-untouched size tree base r = keeps-start size tree base [] r
     (λ image f txns began left is chance.
@@ -63,7 +56,7 @@ told-untouched size count tree base told is = told-map (IsRecordOf size count) (
 module _ (size from : ℕ) (tree : Tree) (base : ℕ) (super : Fields) (read : List StreamBlock) (place : Start) (txns : Transactions) (reading : IsReading size base super read place txns) (stands : StandsFor (items_after txns) tree)
     (r : DiskRecord) (d : HasJournal (begun_journal size from tree base super read place txns) r) (other : Tree) (number : ℕ) where
   module _ (image : List (List ℕ)) (f : Fields) (whole : Transactions) (began : Began size from number other r image f whole) where
-    with-read : BeginsWith r from super image read place
+    with-read : BeganWith r from super image read place
     with-read = d.begins image began.begins
 
     same-super : f ≡ super

@@ -13,10 +13,10 @@ use Rattle.fx_history.specs.declared.entry.Entry.{Entry}
 use Rattle.fx_history.specs.History.{tree_at, settle, settled_by}
 use Rattle.fx_history.proofs.Histories.{got_split, tree_at_before}
 use Rattle.fx_history.proofs.Settling.{settle_got, settle_length, tree_at_settle}
-use Rattle.fx_image.specs.Chance.{NotByChance}
+use Rattle.fx_log.specs.Chance.{NotByChance}
 use Rattle.fx_image.specs.Standing.{Transactions, IsImage, HasAmpleRoom, kept}
 use Rattle.fx_image.specs.Prefix.{IsPrefix, Began, KeepsPrefix}
-use Rattle.fx_image.proofs.Beginning.{cells-begun, begins_as-before}
+use Rattle.fx_disk.proofs.Began.{cells-began, began_as-before}
 
 -- ---- one image
 
@@ -77,7 +77,7 @@ StandsByChance before f size ample tree base history cells m left = NotByChance 
 
 pub began-before : (size from base : ℕ) (tree : Tree) (r : DiskRecord) (call : Call) (contents : List (List ℕ)) (image : List (List ℕ)) (f : Fields) (txns : Transactions) → from ≤ length r.calls
     → Began size from base tree (with_call r call contents) image f txns → Began size from base tree r image f txns
-began-before size from base tree r call contents image f txns le h = record { begins = begins_as-before r call contents from le image h.begins; image_is = h.image_is; base_is = h.base_is }
+began-before size from base tree r call contents image f txns le h = record { begins = began_as-before r call contents from le image h.begins; image_is = h.image_is; base_is = h.base_is }
 
 -- of each disk that began so, every image left now
 abbrev pub KeepsNow : (size from : ℕ) → Tree → (base : ℕ) → List Entry → DiskRecord → Type 0
@@ -104,7 +104,7 @@ module _ (size from : ℕ) (tree : Tree) (base : ℕ) (history other : List Entr
       since = omega (arith, h.since, length-with_call r (Write at bytes ok) contents);
       always = λ image f txns began.
           let s : DiskRecord = with_call r (Write at bytes ok) contents in
-          let same : cell_after s from ≡ cell_after r from = cells-begun r (Write at bytes ok) contents from h.since in
+          let same : cell_after s from ≡ cell_after r from = cells-began r (Write at bytes ok) contents from h.since in
           subst (λ (before : ℕ → Cell). Always (StandsByChance before f size (HasAmpleRoom f txns) tree base other) from s) (sym same)
           (Always-write (StandsByChance (cell_after r from) f size (HasAmpleRoom f txns) tree base history) (StandsByChance (cell_after r from) f size (HasAmpleRoom f txns) tree base other) from r contents at bytes ok
           (h.always image f txns (began-before size from base tree r (Write at bytes ok) contents image f txns h.since began))
@@ -118,7 +118,7 @@ module _ (size from : ℕ) (tree : Tree) (base : ℕ) (history other : List Entr
       since = omega (arith, h.since, length-with_call r (Flush ok) contents);
       always = λ image f txns began.
           let s : DiskRecord = with_call r (Flush ok) contents in
-          let same : cell_after s from ≡ cell_after r from = cells-begun r (Flush ok) contents from h.since in
+          let same : cell_after s from ≡ cell_after r from = cells-began r (Flush ok) contents from h.since in
           subst (λ (before : ℕ → Cell). Always (StandsByChance before f size (HasAmpleRoom f txns) tree base other) from s) (sym same)
           (Always-flush (StandsByChance (cell_after r from) f size (HasAmpleRoom f txns) tree base history) (StandsByChance (cell_after r from) f size (HasAmpleRoom f txns) tree base other) from r contents ok
           (h.always image f txns (began-before size from base tree r (Flush ok) contents image f txns h.since began))

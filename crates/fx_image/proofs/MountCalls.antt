@@ -17,22 +17,23 @@ use Rattle.fx_super.specs.Super.{Fields, IsSuper}
 use Rattle.fx_super.specs.Chosen.{IsChosen, block_number, other}
 use Rattle.fx_super.specs.declared.choice.Which.{Which}
 use Rattle.fx_super.specs.declared.choice.Which.TheVariants.{A, B}
-use Rattle.fx_image.specs.Chance.{NotByChance}
-use Rattle.fx_image.specs.Chosen.{Chooses, ChoosesEither, next_generation, start_of}
-use Rattle.fx_image.specs.Raising.{LeavesEither, ChoosesSince}
+use Rattle.fx_log.specs.Chance.{NotByChance}
+use Rattle.fx_log.specs.Chosen.{Chooses, ChoosesEither, next_generation, start_of}
+use Rattle.fx_log.specs.Raising.{LeavesEither, ChoosesSince}
 use Rattle.fx_image.specs.Standing.{Transactions, StandsFor, HasAmpleRoom, items_after, kept, lists_of}
-use Rattle.fx_image.specs.Ring.{BeginsAs, BeginsWith, KeepsRing}
+use Rattle.fx_disk.specs.Began.{BeganAs}
+use Rattle.fx_log.specs.Ring.{BeganWith, KeepsRing}
 use Rattle.fx_image.specs.Prefix.{IsPrefix}
 use Rattle.fx_image.specs.Journal.{Journal, IsJournal, HasJournal, IsOnDisk, begun_journal}
 use Rattle.fx_disk.proofs.Kept.{Always-now}
-use Rattle.fx_image.proofs.Beginning.{begins_as-before}
-use Rattle.fx_image.proofs.Keeping.{cell_after-now, since-begun, since-raise, since-flush, next-raised}
-use Rattle.fx_image.proofs.Ringed.{ring-begun, ring-elsewhere, ring-flush}
-use Rattle.fx_image.proofs.Streams.{stream-left, stream-unclosed}
-use Rattle.fx_image.proofs.Prefixes.{prefix-at}
-use Rattle.fx_image.proofs.Lasting.{StandsByChance, KeepsNow, keeps-start, keeps-write, keeps-flush}
-use Rattle.fx_image.proofs.Journaled.{begins-at, began-read}
-use Rattle.fx_image.proofs.DiskSteps.{begins-call}
+use Rattle.fx_disk.proofs.Began.{began_as-before, cell_after-now}
+use Rattle.fx_log.proofs.SuperCalls.{since-begun, since-raise, since-flush, next-raised}
+use Rattle.fx_log.proofs.RingCalls.{ring-begun, ring-elsewhere, ring-flush}
+use Rattle.fx_log.proofs.StreamLeft.{stream-left, stream-unclosed}
+use Rattle.fx_image.proofs.PrefixImage.{prefix-at}
+use Rattle.fx_image.proofs.PrefixCalls.{StandsByChance, KeepsNow, keeps-start, keeps-write, keeps-flush}
+use Rattle.fx_image.proofs.PrefixNow.{begins-at, began-read}
+use Rattle.fx_image.proofs.JournalCalls.{begins-call}
 
 module _ (size from : ℕ) (tree : Tree) (base : ℕ) (super : Fields) (read : List StreamBlock) (place : Start) (txns : Transactions) where
   abbrev j : Journal
@@ -67,12 +68,12 @@ module _ (size from : ℕ) (tree : Tree) (base : ℕ) (super : Fields) (read : L
       room = λ ample. h.reading.room;
     }
 
-    module _ (r : DiskRecord) (begins : (image : List (List ℕ)) → BeginsAs r from image → BeginsWith r from super image read place)
-        (ring : (image : List (List ℕ)) → BeginsAs r from image → KeepsRing r from super.ring (super.generation + 1) [] 0 0) (chooses : ChoosesSince from r) where
-      prefix-either : (first left : List (List ℕ)) → BeginsAs r from first → LeftNow r left → NotByChance (cell_after r from) (cell_now r) super.generation left → ChoosesEither super left
+    module _ (r : DiskRecord) (begins : (image : List (List ℕ)) → BeganAs r from image → BeganWith r from super image read place)
+        (ring : (image : List (List ℕ)) → BeganAs r from image → KeepsRing r from super.ring (super.generation + 1) [] 0 0) (chooses : ChoosesSince from r) where
+      prefix-either : (first left : List (List ℕ)) → BeganAs r from first → LeftNow r left → NotByChance (cell_after r from) (cell_now r) super.generation left → ChoosesEither super left
           → IsPrefix size (HasAmpleRoom super txns) tree base [] (length r.calls) left
       prefix-either first left began is chance either =
-          let with : BeginsWith r from super first read place = begins first began in
+          let with : BeganWith r from super first read place = begins first began in
           elim either [
             | inl old ↦ prefix-still (length r.calls) left old (stream-unclosed r from super first read place with left is (super.generation + 1) 0 0 (ring first began))
             | inr new ↦ prefix-at j calls h left new (stream-left r from super first read place with left is [] place.chain h.closed 0 0 (ring first began) new chance) (length r.calls)
@@ -80,7 +81,7 @@ module _ (size from : ℕ) (tree : Tree) (base : ℕ) (super : Fields) (read : L
 
       begun-now : KeepsNow size from tree base [] r
       begun-now image f whole began left is =
-          let with : BeginsWith r from super image read place = begins image began.begins in
+          let with : BeganWith r from super image read place = begins image began.begins in
           began-read size from base tree r image f super whole txns read place
           (λ g old. StandsByChance (cell_after r from) g size (HasAmpleRoom g old) tree base [] (cell_now r) (length r.calls) left)
           began with h.reading.txns_are
@@ -92,13 +93,13 @@ module _ (size from : ℕ) (tree : Tree) (base : ℕ) (super : Fields) (read : L
       abbrev s : DiskRecord
       s = with_flush r ok
 
-      begins-flushed : (image : List (List ℕ)) → BeginsAs s from image → BeginsWith s from super image read place
+      begins-flushed : (image : List (List ℕ)) → BeganAs s from image → BeganWith s from super image read place
       begins-flushed = begins-call r (Flush ok) r.contents from super read place d.since d.begins
 
-      ring-flushed : (image : List (List ℕ)) → BeginsAs s from image → KeepsRing s from super.ring (super.generation + 1) [] 0 0
+      ring-flushed : (image : List (List ℕ)) → BeganAs s from image → KeepsRing s from super.ring (super.generation + 1) [] 0 0
       ring-flushed image began =
-          let before : BeginsAs r from image = begins_as-before r (Flush ok) r.contents from d.since image began in
-          let with : BeginsWith r from super image read place = d.begins image before in
+          let before : BeganAs r from image = began_as-before r (Flush ok) r.contents from d.since image began in
+          let with : BeganWith r from super image read place = d.begins image before in
           ring-flush r from super.ring (super.generation + 1) [] 0 0 (d.ring image before) before.settled (omega (arith, with.blocks, h.reading.rules.blocks_least)) ok
 
       pub begun-flush : HasJournal j (with_flush r ok)
@@ -126,7 +127,7 @@ module _ (size : ℕ) (r : DiskRecord) (is : IsRecordOf size (length r.calls) r)
   journal = begun_journal size from tree base super read place txns
 
   -- what it begins with is what was read
-  reads : (image : List (List ℕ)) → BeginsAs r from image → r.contents ≡ image
+  reads : (image : List (List ℕ)) → BeganAs r from image → r.contents ≡ image
   reads image began = ext_get_or [] r.contents image (is.contents_size ∙ sym is.entry_size ∙ sym began.size)
       (λ b lt.
       let below : b < length r.entry = omega (arith, is.contents_size, is.entry_size) in
@@ -134,7 +135,7 @@ module _ (size : ℕ) (r : DiskRecord) (is : IsRecordOf size (length r.calls) r)
       let fixed : IsFixed (cell_now r b) = fixed-after r b r.calls loose in
       is.reads b (omega (arith, is.contents_size)) fixed.good ∙ sym (ap (λ (c : Cell). c.bytes) (cell_after-now r b)) ∙ sym (began.bytes b below))
 
-  begins-read : (image : List (List ℕ)) → BeginsAs r from image → BeginsWith r from super image read place
+  begins-read : (image : List (List ℕ)) → BeganAs r from image → BeganWith r from super image read place
   begins-read image began =
       let same : r.contents ≡ image = reads image began in
       record {
@@ -144,7 +145,7 @@ module _ (size : ℕ) (r : DiskRecord) (is : IsRecordOf size (length r.calls) r)
         stream = subst (λ (x : List (List ℕ)). IsStream x super.ring super.generation (start_of super) read place) same stream;
       }
 
-  ring-read : (image : List (List ℕ)) → BeginsAs r from image → KeepsRing r from super.ring (super.generation + 1) [] 0 0
+  ring-read : (image : List (List ℕ)) → BeganAs r from image → KeepsRing r from super.ring (super.generation + 1) [] 0 0
   ring-read image began = ring-begun r super.ring (super.generation + 1)
 
   pub begun-read : HasJournal (begun_journal size (length r.calls) tree base super read place txns) r
@@ -165,10 +166,10 @@ module _ (size : ℕ) (r : DiskRecord) (is : IsRecordOf size (length r.calls) r)
       abbrev raised : DiskRecord
       raised = with_write r at bytes good held
 
-      begins-raised : (image : List (List ℕ)) → BeginsAs raised from image → BeginsWith raised from super image read place
+      begins-raised : (image : List (List ℕ)) → BeganAs raised from image → BeganWith raised from super image read place
       begins-raised = begins-call r (Write at bytes good) (set r.contents at held) from super read place (omega arith) begins-read
 
-      ring-raised : (image : List (List ℕ)) → BeginsAs raised from image → KeepsRing raised from super.ring (super.generation + 1) [] 0 0
+      ring-raised : (image : List (List ℕ)) → BeganAs raised from image → KeepsRing raised from super.ring (super.generation + 1) [] 0 0
       ring-raised image began = ring-elsewhere r from super.ring (super.generation + 1) [] 0 0 (ring-begun r super.ring (super.generation + 1)) (omega (arith, h.reading.rules.ring_least)) at bytes good held (inl (low which))
 
       pub begun-raise : HasJournal (begun_journal size (length r.calls) tree base super read place txns) (with_write r (block_number (other which)) bytes good held)

@@ -6,13 +6,10 @@ use Rattle.fx_disk.specs.Steps.{IsRecordOf, Writes, Flushes, MadeOrNot, with_wri
 use Rattle.fx_super.specs.Super.{Fields, IsSuper}
 use Rattle.fx_super.specs.Chosen.{IsChosen, block_number, other}
 use Rattle.fx_super.specs.declared.choice.Which.{Which}
-use Rattle.fx_image.specs.Chosen.{next_generation}
-use Rattle.fx_image.specs.Raising.{ChoosesSince, ChoosesNext}
-use Rattle.fx_image.proofs.Keeping.{since-begun, since-flush, next-flush, since-raise, next-raised}
-
--- of a disk with these counts, what it tells
-abbrev pub IsTold : ℕ → ℕ → Option DiskRecord → Type 0
-IsTold size calls told = IfSome told (IsRecordOf size calls)
+use Rattle.fx_log.specs.Chosen.{next_generation}
+use Rattle.fx_log.specs.Raising.{ChoosesSince, ChoosesNext}
+use Rattle.fx_log.proofs.SuperCalls.{since-begun, since-flush, next-flush, since-raise, next-raised}
+use Rattle.fx_disk.proofs.Made.{IsTold}
 
 -- nothing was written yet
 pub told-begun : (size calls : ℕ) (told : Option DiskRecord) → IsTold size calls told → IfSome told (ChoosesSince calls)
@@ -63,21 +60,6 @@ module _ (size calls : ℕ) (before : Option DiskRecord) (which : Which) (f : Fi
           subst (λ (o : Option DiskRecord). IfSome o (ChoosesNext calls)) (sym e')
           (subst (λ (n : ℕ). ChoosesNext n (with_flush (with_write r (block_number (other which)) bytes true held) true)) h.counted
           (next-raised size r (subst (λ (n : ℕ). IsRecordOf size n r) (sym h.counted) h) which f is bytes next held))
-
--- a good call was made
-pub good-made : (m n : ℕ) (made : Bool) (does keeps : Type 0) → MadeOrNot m n made true does keeps → does
-good-made m n made does keeps d = ⊎_elim (λ y. y.done) (λ no. absurd (cc no.failed)) d
-
-pub good-counted : (m n : ℕ) (made : Bool) (does keeps : Type 0) → MadeOrNot m n made true does keeps → n ≡ m + 1
-good-counted m n made does keeps d = ⊎_elim (λ y. y.counted) (λ no. absurd (cc no.failed)) d
-
--- a call that answered Ok
-pub on_ok-from : {T E : Type 0} (r : Result T E) (P : Type 0) → (is_ok r ≡ true → P) → OnOk r P
-on_ok-from (Ok x) P f = f refl
-on_ok-from (Err e) P f = tt
-
-pub good-flush : (before after : Option DiskRecord) (m n : ℕ) (made ok : Bool) → ok ≡ true → MadeOrNot m n made ok (Flushes before after ok) (after ≡ before) → Flushes before after true
-good-flush before after m n made ok e d = good-made m n made (Flushes before after true) (after ≡ before) (subst (λ (t : Bool). MadeOrNot m n made t (Flushes before after t) (after ≡ before)) e d)
 
 -- further flushes of a mounted disk
 flushes-next : (before after : Option DiskRecord) (from : ℕ) (ok : Bool) → Flushes before after ok → IfSome before (λ r. from ≤ length r.calls) → IfSome before (ChoosesNext from) → IfSome after (ChoosesNext from)

@@ -12,10 +12,10 @@ use Rattle.fx_super.specs.Super.{Fields, IsSuper}
 use Rattle.fx_super.specs.Chosen.{IsChosen, block_of, other}
 use Rattle.fx_super.specs.declared.choice.Which.{Which}
 use Rattle.fx_super.specs.declared.choice.Which.TheVariants.{A, B}
-use Rattle.fx_image.specs.Chosen.{next_generation, Chooses, ChoosesEither}
-use Rattle.fx_image.specs.Chance.{HasTrueSupers, IsNotByChance}
-use Rattle.fx_image.specs.Raising.{LeavesEither, ChoosesSince, ChoosesNext}
-use Rattle.fx_image.proofs.Keeping.{begins-before}
+use Rattle.fx_log.specs.Chosen.{next_generation, Chooses, ChoosesEither}
+use Rattle.fx_log.specs.Chance.{HasTrueSupers, IsNotByChance}
+use Rattle.fx_log.specs.Raising.{LeavesEither, ChoosesSince, ChoosesNext}
+use Rattle.fx_log.proofs.SuperCalls.{begins-before}
 
 -- which superblock is chosen is told by the first two blocks
 same_which : (image others : List (List ℕ)) (f : Fields) → ((which : Which) → block_of image which ≡ block_of others which) → (which : Which) → IsChosen image which f → IsChosen others which f

@@ -5,13 +5,17 @@ use Rattle.std.proofs.lemmas.Slice.Eq.{bytes_eq-Decides}
 use Rattle.std.proofs.lemmas.Bool.{cases_Bool}
 use Rattle.std.proofs.lemmas.Bool.Decides.{not_from_Decides}
 use Rattle.fx_disk.proofs.Cells.{one-is}
-use Rattle.fx_super.specs.Super.{Fields, IsSuper}
+use Rattle.fx_super.specs.Super.{Fields, IsSuper, KeepsRules}
 use Rattle.fx_super.specs.Chosen.{GoesBefore, block_of, other}
 use Rattle.fx_super.specs.declared.choice.Which.{Which}
 use Rattle.fx_super.specs.declared.choice.Which.TheVariants.{A, B}
-use Rattle.fx_super.proofs.Chosen.{one_fields}
-use Rattle.fx_image.specs.Chance.{PassesForSuper}
-use Rattle.fx_image.specs.Chosen.{next_generation, Chooses, ChoosesEither}
+use Rattle.fx_super.proofs.Chosen.{one_fields, one_chosen}
+use Rattle.fx_log.specs.Chance.{PassesForSuper}
+use Rattle.fx_log.specs.Chosen.{next_generation, Chooses, ChoosesEither, start_of}
+use Rattle.fx_jblock.specs.declared.Start.{Start}
+use Rattle.fx_journal.specs.declared.stream.StreamBlock.{StreamBlock}
+use Rattle.fx_journal.specs.Stream.{IsStream}
+use Rattle.fx_journal.proofs.Runs.{one_stream}
 
 pub other-twice : (which : Which) → other (other which) ≡ which
 other-twice A = refl
@@ -63,3 +67,15 @@ module _ (which : Which) (f : Fields) (image : List (List ℕ)) (before bytes : 
       (λ e. inr (chooses_next e))
       (λ ne. inl (stays_chosen (λ g is. ⊎_elim (λ e. e) (λ e. absurd (ne e)) (two-is before bytes (block_of image (other which)) (held (inl (g, is)))))))
       (same-list bytes (block_of image (other which)))
+
+-- one superblock is chosen, and one stream is its
+pub one_super : (image : List (List ℕ)) (f g : Fields) → Chooses f image → Chooses g image → f ≡ g
+one_super image f g a b = (one_chosen image a.0 b.0 f g a.1 b.1).1
+
+pub rules_chosen : (image : List (List ℕ)) (f : Fields) → Chooses f image → KeepsRules f
+rules_chosen image f h = h.1.is_super.rules
+
+pub stream_chosen : (image : List (List ℕ)) (f : Fields) (p q : Start) (xs ys : List StreamBlock) → KeepsRules f
+    → IsStream image f.ring f.generation (start_of f) xs p → IsStream image f.ring f.generation (start_of f) ys q → (xs ≡ ys) × (p ≡ q)
+stream_chosen image f p q xs ys rules a b =
+    one_stream image f.ring f.generation (start_of f) p q xs ys (omega (arith, rules.generation_most)) (omega (arith, rules.sequence_below, rules.ring_most)) a b

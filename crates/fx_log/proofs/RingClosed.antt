@@ -12,10 +12,10 @@ use Rattle.fx_pool.specs.Region.{Region, Run}
 use Rattle.fx_journal.specs.declared.stream.StreamBlock.{StreamBlock}
 use Rattle.fx_journal.specs.Ring.{RingState, Queued, IsLinked, AreHeld, HoldsQueue, first_chain, first_place, chain_after, number}
 use Rattle.fx_journal.proofs.Runs.{run_next}
-use Rattle.fx_image.specs.Chosen.{start_of}
-use Rattle.fx_image.specs.Ring.{BeginsWith, AreClosed, HasRecords, IsTried, IsElsewhere, KeepsRing, place_in, bytes_in}
-use Rattle.fx_image.proofs.Places.{apart, get-more, get-first}
-use Rattle.fx_image.proofs.Ringed.{untried}
+use Rattle.fx_log.specs.Chosen.{start_of}
+use Rattle.fx_log.specs.Ring.{BeganWith, AreClosed, HasRecords, IsTried, IsElsewhere, KeepsRing, place_in, bytes_in}
+use Rattle.fx_log.proofs.RingPlaces.{apart, get-more, get-first}
+use Rattle.fx_log.proofs.RingCalls.{untried}
 
 -- lists of blocks that follow each other, joined and cut
 first_chain-joined : (xs ys : List Queued) (chain : ℕ) → first_chain (xs ++ ys) chain ≡ first_chain xs (first_chain ys chain)
@@ -57,20 +57,20 @@ records-back xs ys records k d lt =
     subst HasRecords at (records (length xs + k) d (omega (arith, length-append xs ys, lt)))
 
 -- what the disk began with
-pub rules-begun : (r : DiskRecord) (from : ℕ) (f : Fields) (image : List (List ℕ)) (read : List StreamBlock) (place : Start) → BeginsWith r from f image read place → KeepsRules f
+pub rules-begun : (r : DiskRecord) (from : ℕ) (f : Fields) (image : List (List ℕ)) (read : List StreamBlock) (place : Start) → BeganWith r from f image read place → KeepsRules f
 rules-begun r from f image read place began = began.chosen.1.is_super.rules
 
-pub place-begun : (r : DiskRecord) (from : ℕ) (f : Fields) (image : List (List ℕ)) (read : List StreamBlock) (place : Start) → BeginsWith r from f image read place → place.sequence ≡ f.sequence + length read
+pub place-begun : (r : DiskRecord) (from : ℕ) (f : Fields) (image : List (List ℕ)) (read : List StreamBlock) (place : Start) → BeganWith r from f image read place → place.sequence ≡ f.sequence + length read
 place-begun r from f image read place began = run_next image f.ring f.generation (start_of f) place read began.stream.run
 
 -- the ring lies on the disk
-pub room-begun : (r : DiskRecord) (from : ℕ) (f : Fields) (image : List (List ℕ)) (read : List StreamBlock) (place : Start) → BeginsWith r from f image read place → (1 ≤ f.ring) × (f.ring + 2 ≤ length r.entry)
+pub room-begun : (r : DiskRecord) (from : ℕ) (f : Fields) (image : List (List ℕ)) (read : List StreamBlock) (place : Start) → BeganWith r from f image read place → (1 ≤ f.ring) × (f.ring + 2 ≤ length r.entry)
 room-begun r from f image read place began =
     let rules : KeepsRules f = rules-begun r from f image read place began in
     (omega (arith, rules.ring_least), omega (arith, rules.blocks_least, began.blocks))
 
 -- No block was closed yet.
-pub closed-begun : (r : DiskRecord) (from : ℕ) (f : Fields) (image : List (List ℕ)) (read : List StreamBlock) (place : Start) → BeginsWith r from f image read place → AreClosed f read place [] place.chain
+pub closed-begun : (r : DiskRecord) (from : ℕ) (f : Fields) (image : List (List ℕ)) (read : List StreamBlock) (place : Start) → BeganWith r from f image read place → AreClosed f read place [] place.chain
 closed-begun r from f image read place began = record {
   records = λ k d lt. absurd (omega arith);
   first = refl;
@@ -144,7 +144,7 @@ closed-front f read place blocks more chain closed = record {
 }
 
 -- The ring once further blocks are closed, of which none is written.
-module _ (r : DiskRecord) (from : ℕ) (f : Fields) (image : List (List ℕ)) (read : List StreamBlock) (place : Start) (began : BeginsWith r from f image read place)
+module _ (r : DiskRecord) (from : ℕ) (f : Fields) (image : List (List ℕ)) (read : List StreamBlock) (place : Start) (began : BeganWith r from f image read place)
     (blocks more : List Queued) (chain : ℕ) (closed : AreClosed f read place (blocks ++ more) chain) (written settled : ℕ) (h : KeepsRing r from f.ring (f.generation + 1) blocks written settled) where
   on-disk : (q : Queued) → place_in f.ring q < length r.entry
   on-disk q = let rules : KeepsRules f = rules-begun r from f image read place began in omega (arith, rules.ring_least, rules.blocks_least, began.blocks)

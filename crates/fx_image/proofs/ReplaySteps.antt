@@ -31,7 +31,7 @@ use Rattle.fx_history.specs.declared.entry.Entry.{Entry}
 use Rattle.fx_history.specs.History.{Legal, tree_after, tree_at}
 use Rattle.fx_image.specs.Standing.{StandsFor, Transactions, lists_of}
 use Rattle.fx_image.specs.Log.{AreItemsOf, IsLog, OfDirectory, OfFile, OfWrite}
-use Rattle.fx_image.proofs.Logs.{log_more, log_now}
+use Rattle.fx_image.proofs.Replay.{log_more, log_now}
 
 -- ---- a tree whose bare tree is one is a tree
 

@@ -13,9 +13,10 @@ use Rattle.fx_super.specs.Super.{Fields}
 use Rattle.fx_jblock.specs.declared.Start.{Start}
 use Rattle.fx_journal.specs.declared.stream.StreamBlock.{StreamBlock}
 use Rattle.fx_journal.specs.Ring.{Queued}
-use Rattle.fx_image.specs.Ring.{AreClosed, IsTried, KeepsRing, place_in, bytes_in}
-use Rattle.fx_image.proofs.Keeping.{flushed-bytes, flushed-fixed, cell_after-now}
-use Rattle.fx_image.proofs.Places.{apart}
+use Rattle.fx_log.specs.Ring.{AreClosed, IsTried, KeepsRing, place_in, bytes_in}
+use Rattle.fx_disk.proofs.Flushed.{flushed-bytes, flushed-fixed}
+use Rattle.fx_disk.proofs.Began.{cell_after-now}
+use Rattle.fx_log.proofs.RingPlaces.{apart}
 
 -- a cell with other marks
 abbrev marked : Cell → Bool → Bool → List ℕ → List (List ℕ) → Cell

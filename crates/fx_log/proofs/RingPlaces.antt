@@ -9,7 +9,7 @@ use Rattle.fx_jblock.specs.declared.Start.{Start}
 use Rattle.fx_super.specs.Super.{Fields}
 use Rattle.fx_journal.specs.declared.stream.StreamBlock.{StreamBlock}
 use Rattle.fx_journal.specs.Ring.{Queued, IsLinked, number}
-use Rattle.fx_image.specs.Ring.{place_in, AreClosed}
+use Rattle.fx_log.specs.Ring.{place_in, AreClosed}
 
 -- a number less than the ring's size further on has another place
 further : (ring n d : ℕ) → d < ring → (n + d) % ring ≡ n % ring → d ≡ 0

@@ -8,8 +8,8 @@ use Rattle.fx_jblock.specs.declared.Start.{Start}
 use Rattle.fx_journal.specs.declared.stream.StreamBlock.{StreamBlock}
 use Rattle.fx_journal.specs.Stream.{IsRun, StandsAs, StandsAt, bytes_for, place_after}
 use Rattle.fx_journal.specs.Ring.{Queued, IsLinked, first_chain}
-use Rattle.fx_image.specs.Ring.{HasRecords, bytes_in, in_stream, as_stream}
-use Rattle.fx_image.proofs.Choosing.{same-list}
+use Rattle.fx_log.specs.Ring.{HasRecords, bytes_in, in_stream, as_stream}
+use Rattle.fx_log.proofs.SuperChoice.{same-list}
 
 -- a run is one also where greater epochs may stand
 pub run-raised : (image : List (List ℕ)) (ring generation higher : ℕ) (start next : Start) (blocks : List StreamBlock) → generation ≤ higher → IsRun image ring generation start blocks next → IsRun image ring higher start blocks next

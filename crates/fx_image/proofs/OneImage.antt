@@ -11,19 +11,9 @@ use Rattle.fx_record.specs.Txns.{IsTxns}
 use Rattle.fx_record.proofs.Fronts.{one_answer}
 use Rattle.fx_super.specs.Super.{Fields, KeepsRules}
 use Rattle.fx_super.proofs.Chosen.{one_chosen}
-use Rattle.fx_image.specs.Chosen.{Chooses, start_of}
+use Rattle.fx_log.specs.Chosen.{Chooses, start_of}
 use Rattle.fx_image.specs.Standing.{Transactions, IsImage, items_after, pieces_of}
-
-pub one_super : (image : List (List ℕ)) (f g : Fields) → Chooses f image → Chooses g image → f ≡ g
-one_super image f g a b = (one_chosen image a.0 b.0 f g a.1 b.1).1
-
-pub rules_chosen : (image : List (List ℕ)) (f : Fields) → Chooses f image → KeepsRules f
-rules_chosen image f h = h.1.is_super.rules
-
-pub stream_chosen : (image : List (List ℕ)) (f : Fields) (p q : Start) (xs ys : List StreamBlock) → KeepsRules f
-    → IsStream image f.ring f.generation (start_of f) xs p → IsStream image f.ring f.generation (start_of f) ys q → (xs ≡ ys) × (p ≡ q)
-stream_chosen image f p q xs ys rules a b =
-    one_stream image f.ring f.generation (start_of f) p q xs ys (omega (arith, rules.generation_most)) (omega (arith, rules.sequence_below, rules.ring_most)) a b
+use Rattle.fx_log.proofs.SuperChoice.{one_super, rules_chosen, stream_chosen}
 
 module _ (size : ℕ) (image : List (List ℕ)) (f : Fields) where
   pub one_journal : (xs ys : Transactions) (t u : Tree) → IsImage size image f xs t → IsImage size image f ys u → xs ≡ ys

@@ -11,24 +11,26 @@ use Rattle.fx_jblock.specs.declared.Start.{Start}
 use Rattle.fx_journal.specs.declared.stream.StreamBlock.{StreamBlock}
 use Rattle.fx_journal.specs.Ring.{Queued}
 use Rattle.fx_super.specs.Super.{Fields}
-use Rattle.fx_image.specs.Raising.{ChoosesNext}
-use Rattle.fx_image.specs.Ring.{BeginsAs, BeginsWith, AreClosed, KeepsRing, place_in, bytes_in}
+use Rattle.fx_log.specs.Raising.{ChoosesNext}
+use Rattle.fx_disk.specs.Began.{BeganAs}
+use Rattle.fx_log.specs.Ring.{BeganWith, AreClosed, KeepsRing, place_in, bytes_in}
 use Rattle.fx_image.specs.Journal.{Journal, IsJournal, IsNextCommit, HasJournal, IsOnDisk, IsWrittenOut, with_commit, with_closed, with_written, with_flushed, with_settled}
-use Rattle.fx_image.proofs.Beginning.{begins_as-before, begins_with-after}
-use Rattle.fx_image.proofs.Closing.{ring-closes}
-use Rattle.fx_image.proofs.Keeping.{since-flush, next-flush}
-use Rattle.fx_image.proofs.Past.{since-write, next-write}
-use Rattle.fx_image.proofs.Ringed.{ring-tries, ring-writes, ring-flush, ring-settles}
-use Rattle.fx_image.proofs.Lasting.{keeps-map, keeps-write, keeps-flush, prefix-more, prefix-settled}
-use Rattle.fx_image.proofs.Journaled.{keeps-now}
+use Rattle.fx_disk.proofs.Began.{began_as-before}
+use Rattle.fx_log.proofs.RingBegan.{began_with-after}
+use Rattle.fx_log.proofs.RingClosed.{ring-closes}
+use Rattle.fx_log.proofs.SuperCalls.{since-flush, next-flush}
+use Rattle.fx_log.proofs.SuperWrites.{since-write, next-write}
+use Rattle.fx_log.proofs.RingCalls.{ring-tries, ring-writes, ring-flush, ring-settles}
+use Rattle.fx_image.proofs.PrefixCalls.{keeps-map, keeps-write, keeps-flush, prefix-more, prefix-settled}
+use Rattle.fx_image.proofs.PrefixNow.{keeps-now}
 use Rattle.fx_image.proofs.JournalSteps.{journal-settle}
 
 -- what a disk began with is known after a further call too
 pub begins-call : (r : DiskRecord) (call : Call) (contents : List (List ℕ)) (from : ℕ) (f : Fields) (read : List StreamBlock) (place : Start) → from ≤ length r.calls
-    → ((image : List (List ℕ)) → BeginsAs r from image → BeginsWith r from f image read place)
-    → (image : List (List ℕ)) → BeginsAs (with_call r call contents) from image → BeginsWith (with_call r call contents) from f image read place
+    → ((image : List (List ℕ)) → BeganAs r from image → BeganWith r from f image read place)
+    → (image : List (List ℕ)) → BeganAs (with_call r call contents) from image → BeganWith (with_call r call contents) from f image read place
 begins-call r call contents from f read place le begins image began =
-    begins_with-after r call contents from le f image read place (begins image (begins_as-before r call contents from le image began))
+    began_with-after r call contents from le f image read place (begins image (began_as-before r call contents from le image began))
 
 -- ---- commits
 
@@ -36,7 +38,7 @@ module _ (j : Journal) (r : DiskRecord) (d : IsOnDisk j r) where
   abbrev m : HasJournal j r
   m = d.journal
 
-  ring-more : (closed : List Queued) (chain : ℕ) → AreClosed j.super j.read j.place (j.blocks ++ closed) chain → (image : List (List ℕ)) → BeginsAs r j.from image
+  ring-more : (closed : List Queued) (chain : ℕ) → AreClosed j.super j.read j.place (j.blocks ++ closed) chain → (image : List (List ℕ)) → BeganAs r j.from image
       → KeepsRing r j.from j.super.ring (j.super.generation + 1) (j.blocks ++ closed) j.written j.settled
   ring-more closed chain blocks image began = ring-closes r j.from j.super image j.read j.place (m.begins image began) j.blocks closed chain blocks j.written j.settled (m.ring image began)
 
@@ -79,17 +81,17 @@ module _ (j : Journal) (calls : ℕ) (h : IsJournal j calls) (r : DiskRecord) (d
   abbrev after : Bool → DiskRecord
   after ok = with_write r at bytes ok held
 
-  begins-after : (ok : Bool) (image : List (List ℕ)) → BeginsAs (after ok) j.from image → BeginsWith (after ok) j.from j.super image j.read j.place
+  begins-after : (ok : Bool) (image : List (List ℕ)) → BeganAs (after ok) j.from image → BeganWith (after ok) j.from j.super image j.read j.place
   begins-after ok = begins-call r (Write at bytes ok) (set r.contents at held) j.from j.super j.read j.place d.journal.since d.journal.begins
 
-  ring-before : (ok : Bool) (image : List (List ℕ)) → BeginsAs (after ok) j.from image → KeepsRing r j.from j.super.ring (j.super.generation + 1) j.blocks j.written j.settled
-  ring-before ok image began = d.journal.ring image (begins_as-before r (Write at bytes ok) (set r.contents at held) j.from d.journal.since image began)
+  ring-before : (ok : Bool) (image : List (List ℕ)) → BeganAs (after ok) j.from image → KeepsRing r j.from j.super.ring (j.super.generation + 1) j.blocks j.written j.settled
+  ring-before ok image began = d.journal.ring image (began_as-before r (Write at bytes ok) (set r.contents at held) j.from d.journal.since image began)
 
-  ring-tried : (ok : Bool) (image : List (List ℕ)) → BeginsAs (after ok) j.from image → KeepsRing (after ok) j.from j.super.ring (j.super.generation + 1) j.blocks j.written j.settled
+  ring-tried : (ok : Bool) (image : List (List ℕ)) → BeganAs (after ok) j.from image → KeepsRing (after ok) j.from j.super.ring (j.super.generation + 1) j.blocks j.written j.settled
   ring-tried ok image began =
       ring-tries r j.from j.super j.read j.place j.blocks j.chain h.closed j.written j.settled (ring-before ok image began) j.written q here ok held (omega arith)
 
-  ring-written : (image : List (List ℕ)) → BeginsAs (after true) j.from image → KeepsRing (after true) j.from j.super.ring (j.super.generation + 1) j.blocks (j.written + 1) j.settled
+  ring-written : (image : List (List ℕ)) → BeganAs (after true) j.from image → KeepsRing (after true) j.from j.super.ring (j.super.generation + 1) j.blocks (j.written + 1) j.settled
   ring-written image began =
       ring-writes r j.from j.super j.read j.place j.blocks j.chain h.closed j.written j.settled (ring-before true image began) j.written q here true held refl refl
 
@@ -130,25 +132,25 @@ module _ (j : Journal) (calls : ℕ) (h : IsJournal j calls) (r : DiskRecord) (d
 -- ---- a flush
 
 module _ (j : Journal) (calls : ℕ) (h : IsJournal j calls) (r : DiskRecord) (d : IsOnDisk j r) where
-  begins-flushed : (ok : Bool) (image : List (List ℕ)) → BeginsAs (with_flush r ok) j.from image → BeginsWith (with_flush r ok) j.from j.super image j.read j.place
+  begins-flushed : (ok : Bool) (image : List (List ℕ)) → BeganAs (with_flush r ok) j.from image → BeganWith (with_flush r ok) j.from j.super image j.read j.place
   begins-flushed ok = begins-call r (Flush ok) r.contents j.from j.super j.read j.place d.journal.since d.journal.begins
 
-  began-flushed : (ok : Bool) (image : List (List ℕ)) → BeginsAs (with_flush r ok) j.from image → BeginsAs r j.from image
-  began-flushed ok image began = begins_as-before r (Flush ok) r.contents j.from d.journal.since image began
+  began-flushed : (ok : Bool) (image : List (List ℕ)) → BeganAs (with_flush r ok) j.from image → BeganAs r j.from image
+  began-flushed ok image began = began_as-before r (Flush ok) r.contents j.from d.journal.since image began
 
-  ring-fits : (image : List (List ℕ)) → BeginsAs r j.from image → j.super.ring + 2 ≤ length r.entry
+  ring-fits : (image : List (List ℕ)) → BeganAs r j.from image → j.super.ring + 2 ≤ length r.entry
   ring-fits image began =
-      let with : BeginsWith r j.from j.super image j.read j.place = d.journal.begins image began in
+      let with : BeganWith r j.from j.super image j.read j.place = d.journal.begins image began in
       omega (arith, with.blocks, h.reading.rules.blocks_least)
 
-  ring-flushed : (ok : Bool) (image : List (List ℕ)) → BeginsAs (with_flush r ok) j.from image → KeepsRing (with_flush r ok) j.from j.super.ring (j.super.generation + 1) j.blocks j.written j.settled
+  ring-flushed : (ok : Bool) (image : List (List ℕ)) → BeganAs (with_flush r ok) j.from image → KeepsRing (with_flush r ok) j.from j.super.ring (j.super.generation + 1) j.blocks j.written j.settled
   ring-flushed ok image began =
-      let before : BeginsAs r j.from image = began-flushed ok image began in
+      let before : BeganAs r j.from image = began-flushed ok image began in
       ring-flush r j.from j.super.ring (j.super.generation + 1) j.blocks j.written j.settled (d.journal.ring image before) before.settled (ring-fits image before) ok
 
-  ring-settled : (image : List (List ℕ)) → BeginsAs (with_flush r true) j.from image → KeepsRing (with_flush r true) j.from j.super.ring (j.super.generation + 1) j.blocks j.written j.written
+  ring-settled : (image : List (List ℕ)) → BeganAs (with_flush r true) j.from image → KeepsRing (with_flush r true) j.from j.super.ring (j.super.generation + 1) j.blocks j.written j.written
   ring-settled image began =
-      let before : BeginsAs r j.from image = began-flushed true image began in
+      let before : BeganAs r j.from image = began-flushed true image began in
       ring-settles r j.from j.super.ring (j.super.generation + 1) j.blocks j.written j.settled (d.journal.ring image before) before.settled (ring-fits image before)
 
   next-flushed : (ok : Bool) → ChoosesNext j.from (with_flush r ok)

@@ -24,8 +24,8 @@ use Rattle.fx_history.specs.declared.entry.Entry.{Entry}
 use Rattle.fx_history.specs.History.{tree_at}
 use Rattle.fx_super.specs.Super.{Fields}
 use Rattle.fx_image.specs.Standing.{Transactions, StandsFor, IsImage, HasRoom, HasAmpleRoom, kept, items_after, lists_of, pieces_of}
-use Rattle.fx_image.specs.Ring.{KeepsStream, as_stream}
-use Rattle.fx_image.specs.Chosen.{Chooses, next_generation, start_of}
+use Rattle.fx_log.specs.Ring.{KeepsStream, as_stream}
+use Rattle.fx_log.specs.Chosen.{Chooses, next_generation, start_of}
 use Rattle.fx_image.specs.Prefix.{IsPrefix, IsWhole}
 use Rattle.fx_image.specs.Journal.{Journal, IsJournal}
 

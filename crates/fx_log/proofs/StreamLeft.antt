@@ -13,20 +13,20 @@ use Rattle.fx_journal.specs.declared.stream.StreamBlock.{StreamBlock}
 use Rattle.fx_journal.specs.Stream.{IsRun, IsStream, StandsAs, StandsAt, bytes_for, place_of, place_after}
 use Rattle.fx_journal.specs.Ring.{Queued}
 use Rattle.fx_journal.proofs.Runs.{run_joined, run_more, run_next, same_run, same_stream, ended_run}
-use Rattle.fx_image.specs.Chosen.{Chooses, next_generation, start_of}
-use Rattle.fx_image.specs.Chance.{IsTrueBlock, NotByChance}
-use Rattle.fx_image.specs.Ring.{BeginsWith, AreClosed, IsTried, IsElsewhere, KeepsRing, KeepsStream, place_in, bytes_in, in_stream, as_stream}
-use Rattle.fx_image.proofs.Choosing.{two-is}
-use Rattle.fx_image.proofs.Closing.{rules-begun, place-begun}
-use Rattle.fx_image.proofs.Leading.{Leads, leads, run-raised, stands-lower}
-use Rattle.fx_image.proofs.Places.{sequence-is, same_place}
+use Rattle.fx_log.specs.Chosen.{Chooses, next_generation, start_of}
+use Rattle.fx_log.specs.Chance.{IsTrueBlock, NotByChance}
+use Rattle.fx_log.specs.Ring.{BeganWith, AreClosed, IsTried, IsElsewhere, KeepsRing, KeepsStream, place_in, bytes_in, in_stream, as_stream}
+use Rattle.fx_log.proofs.SuperChoice.{two-is}
+use Rattle.fx_log.proofs.RingClosed.{rules-begun, place-begun}
+use Rattle.fx_log.proofs.StreamNext.{Leads, leads, run-raised, stands-lower}
+use Rattle.fx_log.proofs.RingPlaces.{sequence-is, same_place}
 
 -- the place after a run has no greater floor than its blocks may have
 run-floor : (image : List (List ℕ)) (ring generation : ℕ) (start next : Start) (blocks : List StreamBlock) → start.floor ≤ generation → IsRun image ring generation start blocks next → next.floor ≤ generation
 run-floor image ring generation start next [] le run = omega (arith, ap (λ (p : Start). p.floor) run)
 run-floor image ring generation start next (b ∷ bs) le run = run-floor image ring generation (place_after start b) next bs run.0.continues.most run.1
 
-module _ (r : DiskRecord) (from : ℕ) (f : Fields) (first : List (List ℕ)) (read : List StreamBlock) (place : Start) (began : BeginsWith r from f first read place)
+module _ (r : DiskRecord) (from : ℕ) (f : Fields) (first : List (List ℕ)) (read : List StreamBlock) (place : Start) (began : BeganWith r from f first read place)
     (image : List (List ℕ)) (left : LeftNow r image) where
   abbrev rules : KeepsRules f
   rules = rules-begun r from f first read place began

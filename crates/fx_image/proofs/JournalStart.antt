@@ -20,11 +20,11 @@ use Rattle.fx_journal.specs.declared.stream.StreamBlock.{StreamBlock}
 use Rattle.fx_journal.specs.Stream.{IsSeries, place_after}
 use Rattle.fx_record.specs.Commits.{IsCommit}
 use Rattle.fx_super.specs.Super.{Fields}
-use Rattle.fx_image.specs.Chosen.{start_of}
+use Rattle.fx_log.specs.Chosen.{start_of}
 use Rattle.fx_image.specs.Standing.{Transactions, StandsFor, items_after, lists_of}
-use Rattle.fx_image.specs.Ring.{AreClosed, HasRecords}
+use Rattle.fx_log.specs.Ring.{AreClosed, HasRecords}
 use Rattle.fx_image.specs.Journal.{IsJournal, IsReading, begun_journal}
-use Rattle.fx_image.proofs.Logs.{log_none}
+use Rattle.fx_image.proofs.Replay.{log_none}
 
 -- ---- a tree that items stand for has files that hold nothing
 

@@ -5,7 +5,7 @@ use Rattle.fx_super.specs.Super.{Fields, IsSuper, IsVersion}
 use Rattle.fx_jblock.specs.declared.Start.{Start}
 use Rattle.fx_journal.specs.declared.stream.StreamBlock.{StreamBlock}
 use Rattle.fx_journal.specs.Stream.{IsRun, StandsAt, bytes_for, place_of}
-use Rattle.fx_image.specs.Chosen.{Chooses, start_of}
+use Rattle.fx_log.specs.Chosen.{Chooses, start_of}
 
 -- The block passes for a superblock, of this version or of another one.
 abbrev pub PassesForSuper : List ℕ → Type 0

@@ -1,0 +1,10 @@
+pub mod SuperChoice
+pub mod SuperCalls
+pub mod SuperWrites
+pub mod SuperTold
+pub mod RingPlaces
+pub mod RingCalls
+pub mod RingBegan
+pub mod RingClosed
+pub mod StreamNext
+pub mod StreamLeft

@@ -1,0 +1,4 @@
+pub mod Chosen
+pub mod Chance
+pub mod Raising
+pub mod Ring
