@@ -16,8 +16,7 @@ use thiserror::Error;
 
 pub mod laws;
 
-/// The bytes of a block.
-pub const BLOCK_BYTES: u64 = 4096;
+pub use fx_base::BLOCK_BYTES;
 
 /// How many reads, and how many writes and flushes, a disk makes at most. Further ones fail.
 pub const MAX_CALLS: u64 = 1 << 63;
@@ -49,7 +48,7 @@ pub trait Disk {
         ensures { result ≡ (seen self.now).faults };
 
     /// Reads a block. After an error `into` holds any bytes.
-    fn read(&mut self, at: u32, into: &mut [u8; 4096]) -> Result<(), DiskFailed>
+    fn read(&mut self, at: u32, into: &mut [u8; BLOCK_BYTES]) -> Result<(), DiskFailed>
         requires { at < (seen self.old).size }
         ensures bytes { OnOk result
             (IfSome (seen self.old).told (λ r. into.new ≡ slice_index_or r.contents at [])) }
@@ -57,7 +56,7 @@ pub trait Disk {
 
     /// Writes a block. A write that fails may have been made, and then leaves any bytes in its block
     /// until a later write and flush.
-    fn write(&mut self, at: u32, from: &[u8; 4096]) -> Result<(), DiskFailed>
+    fn write(&mut self, at: u32, from: &[u8; BLOCK_BYTES]) -> Result<(), DiskFailed>
         requires { at < (seen self.old).size }
         ensures written { HasWritten (seen self.old) (seen self.new) at from.now (is_ok result) };
 

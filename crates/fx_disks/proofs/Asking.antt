@@ -1,10 +1,13 @@
 -- What writes and flushes that are asked for make of a disk in memory.
 use Rattle.std.proofs.Common.{◌≡◌, ◌↔◌, ℕ, ◌+◌, ◌-◌, ◌^◌, ◌≤◌, ◌<◌, ◌⊎◌, inl, inr, ⊎_elim, min, Bool, true, false, not, if◌then◌else◌, List, [], ◌∷◌, ◌++◌, length, get_or, refl, subst, sym, ◌∙◌, ap, arith, Option, Some, None, Contains, IsTrue}
 use Rattle.std.proofs.lemmas.List.{length-append, length-set}
+use Rattle.std.proofs.lemmas.Bool.{cases_lt}
+use Rattle.fx_base.specs.Causes.{risen, CountsFault}
 use Rattle.fx_disk.specs.Record.{Call, Write, Flush, DiskRecord, IsBlock}
 use Rattle.fx_disk.specs.Steps.{Holds, Writes, Flushes, MadeOrNot, IsMade, IsNotMade, with_write, with_flush, IsRecordOf}
+use Rattle.fx_disk.specs.Seen.{HasRead, HasWritten, HasFlushed}
 use Rattle.fx_disks.specs.Calls.{record_of}
-use Rattle.fx_disks.specs.State.{MemoryState, Asks, IsAtLimit, IsStarved, IsDone, risen, refused_state, starved_state, made_state, written_record}
+use Rattle.fx_disks.specs.State.{MemoryState, seen_in, IsRead, Asks, IsAtLimit, IsStarved, IsDone, refused_state, starved_state, made_state, written_record}
 use Rattle.fx_disks.proofs.Holding.{record-write, record-flush, holds-written}
 
 -- a call that is made
@@ -82,3 +85,40 @@ pub asks-faults : (s t : MemoryState) (ok : Bool) (disk : DiskRecord) → Asks s
 asks-faults s t ok disk (inl h) = ap (λ (x : MemoryState). x.faults) h.state ∙ sym (ap (λ (b : Bool). if b then s.faults else risen s.faults) h.failed)
 asks-faults s t ok disk (inr (inl h)) = ap (λ (x : MemoryState). x.faults) h.state ∙ sym (ap (λ (b : Bool). if b then s.faults else risen s.faults) h.failed)
 asks-faults s t ok disk (inr (inr h)) = ap (λ (x : MemoryState). x.faults) h.state
+
+counted : (ok : Bool) (before now : ℕ) → before < 2 ^ 64 → now ≡ (if ok then before else risen before) → CountsFault ok before now
+counted true before now few e = record { answer = e; grows = omega (arith, e) }
+counted false before now few e = record { answer = omega (arith, e); grows = omega (arith, e, few) }
+
+-- what is seen of the disk over a read, a write and a flush
+pub read_seen : (s t : MemoryState) (ok : Bool) → s.reads ≤ 2 ^ 63 → s.faults < 2 ^ 64 → IsRead s t ok → HasRead (seen_in s) (seen_in t) ok
+read_seen s t ok few_reads few_faults h = record {
+  reads = ap (λ (x : MemoryState). x.reads) h.state;
+  grows = omega (arith, few_reads, ap (λ (x : MemoryState). x.reads) h.state);
+  limit = below;
+  faults = counted ok s.faults t.faults few_faults (ap (λ (x : MemoryState). x.faults) h.state);
+  size = ap (λ (x : MemoryState). length x.disk.entry) h.state;
+  told = ap (λ (x : MemoryState). Some x.disk) h.state;
+  calls = ap (λ (x : MemoryState). length x.disk.calls) h.state;
+  last_made = ap (λ (x : MemoryState). x.last_made) h.state;
+}
+  where
+    below : ok ≡ true → s.reads < 2 ^ 63
+    below good = ⊎_elim (λ lt. lt) (λ ge. let bad : ok ≡ false = h.failed.1 (inl ge) in absurd (cc)) (cases_lt s.reads (2 ^ 63))
+
+pub write_seen : (size n : ℕ) (s t : MemoryState) (at : ℕ) (bytes : List ℕ) (ok : Bool) → IsRecordOf size n s.disk → at < size → IsBlock bytes → s.faults < 2 ^ 64
+    → Asks s t ok (written_record s.disk at bytes ok) → HasWritten (seen_in s) (seen_in t) at bytes ok
+write_seen size n s t at bytes ok h lt block few asks = record {
+  made = told-write size n s t at bytes ok h lt block asks;
+  faults = counted ok s.faults t.faults few (asks-faults s t ok _ asks);
+  size = asks-keeps (λ (x : MemoryState). length x.disk.entry) s t ok _ refl refl refl asks;
+  reads = asks-keeps (λ (x : MemoryState). x.reads) s t ok _ refl refl refl asks;
+}
+
+pub flush_seen : (s t : MemoryState) (ok : Bool) → s.faults < 2 ^ 64 → Asks s t ok (with_flush s.disk ok) → HasFlushed (seen_in s) (seen_in t) ok
+flush_seen s t ok few asks = record {
+  made = told-flush s t ok asks;
+  faults = counted ok s.faults t.faults few (asks-faults s t ok _ asks);
+  size = asks-keeps (λ (x : MemoryState). length x.disk.entry) s t ok _ refl refl refl asks;
+  reads = asks-keeps (λ (x : MemoryState). x.reads) s t ok _ refl refl refl asks;
+}

@@ -9,7 +9,7 @@ use Rattle.fx_disk.specs.Record.{Call, Write, Flush, DiskRecord, IsBlock, call_a
 use Rattle.fx_disk.specs.Steps.{Holds, with_write, with_flush, IsRecordOf}
 use Rattle.fx_disk.proofs.Records.{IsRecordOf-fresh, IsRecordOf-write, IsRecordOf-flush, by_block}
 use Rattle.fx_disks.specs.Blocks.{AreBlocks}
-use Rattle.fx_disks.specs.Zeros.{zero_bytes}
+use Rattle.fx_base.specs.Blocks.{zero_bytes}
 use Rattle.fx_disks.specs.Calls.{bytes_by, bytes_or, contents_after, record_of}
 use Rattle.fx_disks.specs.Index.{IsIndex}
 use Rattle.fx_disks.specs.State.{written_record}

@@ -10,7 +10,7 @@ use Rattle.std.proofs.lemmas.Bool.Decides.{eqb_tells}
 use Rattle.fx_disk.specs.Record.{Call, Write, Flush, DiskRecord, Cell, IsBlock, Left, call_at, cell_at}
 use Rattle.fx_disk.specs.Loose.{IsWriteOf, bytes_of}
 use Rattle.fx_disk.specs.Steps.{IsRecordOf, IsCallOf}
-use Rattle.fx_disks.specs.Zeros.{zero_bytes}
+use Rattle.fx_base.specs.Blocks.{zero_bytes}
 use Rattle.fx_disks.specs.Calls.{bytes_by, bytes_or, record_of}
 use Rattle.fx_disks.specs.Tracks.{Tracks, TrackedAt, fresh, is_fixed, settled_by}
 use Rattle.fx_disks.specs.Picks.{IsPick, ArePicks, IsImageOf, CanBeLeft, Wrote, pick_of, left_bytes, chosen_bytes}

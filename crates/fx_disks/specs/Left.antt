@@ -5,7 +5,7 @@ use Rattle.fx_disks.specs.Calls.{bytes_by, record_of}
 use Rattle.fx_disks.specs.Tracks.{settled_by, fresh}
 use Rattle.fx_disks.specs.Picks.{IsPick, ArePicks, pick_of}
 use Rattle.fx_disks.specs.declared.track.Track.{Track}
-use Rattle.fx_disks.specs.Zeros.{zero_bytes}
+use Rattle.fx_base.specs.Blocks.{zero_bytes}
 use Rattle.fx_disks.specs.declared.pick.Pick.{Pick}
 use Rattle.fx_disks.specs.declared.pick.Loose.{Loose}
 use Rattle.fx_disks.specs.declared.pick.Loose.TheVariants.{Settled, Written, Half, Zeros}

@@ -1,5 +1,4 @@
 pub mod Blocks
-pub mod Zeros
 pub mod Calls
 pub mod Tracks
 pub mod Picks

@@ -3,7 +3,7 @@ use Rattle.std.specs.Prelude.{◌≡◌, ◌≢◌, ℕ, ◌+◌, ◌-◌, ◌�
 use Rattle.std.specs.List.{All, AllPairs}
 use Rattle.fx_disk.specs.Record.{DiskRecord, Call, call_at, cell_at}
 use Rattle.fx_disk.specs.Loose.{IsWriteOf, bytes_of}
-use Rattle.fx_disks.specs.Zeros.{zero_bytes}
+use Rattle.fx_base.specs.Blocks.{zero_bytes}
 use Rattle.fx_disks.specs.declared.pick.Pick.{Pick}
 use Rattle.fx_disks.specs.declared.pick.Loose.{Loose}
 use Rattle.fx_disks.specs.declared.pick.Loose.TheVariants.{Settled, Written, Half, Zeros}

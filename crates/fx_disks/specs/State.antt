@@ -1,8 +1,10 @@
 -- What a disk in memory is, and what its calls make of it.
-use Rattle.std.specs.Prelude.{◌≡◌, ◌↔◌, ℕ, ◌+◌, ◌-◌, ◌^◌, ◌<◌, ◌≤◌, ◌⊎◌, min, Bool, true, false, if◌then◌else◌, List, [], ◌∷◌, length, replicate, slice_index_or, slice_set}
+use Rattle.std.specs.Prelude.{◌≡◌, ◌↔◌, ℕ, ◌+◌, ◌-◌, ◌^◌, ◌<◌, ◌≤◌, ◌⊎◌, min, Bool, true, false, if◌then◌else◌, Some, List, [], ◌∷◌, length, replicate, slice_index_or, slice_set}
 use Rattle.std.specs.List.{Contains}
 use Rattle.fx_disk.specs.Record.{DiskRecord, Write, Flush}
+use Rattle.fx_base.specs.Causes.{risen}
 use Rattle.fx_disk.specs.Steps.{with_write, with_flush}
+use Rattle.fx_disk.specs.Seen.{DiskSeen}
 
 -- The record of the disk, its counts, and the numbers of the calls and reads that are to fail.
 pub record MemoryState : Type 0 where
@@ -13,6 +15,17 @@ pub record MemoryState : Type 0 where
   pub last_made : Bool
   pub fail_calls : List ℕ
   pub fail_reads : List ℕ
+
+-- What is seen of the disk.
+abbrev pub seen_in : MemoryState → DiskSeen
+seen_in s = record {
+  size = length s.disk.entry;
+  told = Some s.disk;
+  calls = length s.disk.calls;
+  reads = s.reads;
+  faults = s.faults;
+  last_made = s.last_made;
+}
 
 -- A disk of this image before its first call.
 abbrev pub fresh_state : List (List ℕ) → MemoryState
@@ -25,10 +38,6 @@ fresh_state image = record {
   fail_calls = [];
   fail_reads = [];
 }
-
--- A count of 64 bits that rises, or stands still at its end.
-abbrev pub risen : ℕ → ℕ
-risen count = min (count + 1) (2 ^ 64 - 1)
 
 -- A write or a flush that is not made.
 abbrev pub refused_state : MemoryState → MemoryState

@@ -1,6 +1,7 @@
 //! A disk over a file.
-ghost use Rattle.std.specs.Prelude.{◌<◌, ◌≤◌, ◌^◌, IfOk, None};
+ghost use Rattle.std.specs.Prelude.{◌≡◌, ◌<◌, ◌≤◌, ◌^◌, true, false, IfOk, OnErr, is_ok};
 
+use fx_base::count_up;
 use fx_disk::{BLOCK_BYTES, Disk, DiskFailed, MAX_CALLS};
 use std::fs::{File, OpenOptions};
 use std::io;
@@ -11,11 +12,18 @@ use std::rt::Files;
 /// A disk over a file or a device, whose bytes it does not tell.
 ///
 /// A block stands at 4,096 times its number. A flush is the data sync of the file, and ends when the
-/// system says that the device has the bytes.
+/// system says that the device has the bytes. After a flush that failed no write and no flush is made
+/// any more: the system may forget what it could not write once it has said so, and a later flush
+/// that succeeds would not speak of it. Reads go on.
+///
+/// As long as the disk lasts it holds an advisory lock on the file, which every other disk over it
+/// respects, in this program and in others.
 #[derive(Drop)]
 pub struct FileDisk {
     file: File,
     blocks: u32,
+    // Neither opened for reading alone nor shut by a flush that failed.
+    writable: bool,
     calls: u64,
     reads: u64,
     faults: u64,
@@ -26,9 +34,19 @@ pub struct FileDisk {
     ghost few_blocks: { blocks < 2 ^ 32 },
 }
 
-// Opens a file for reading and writing, and tells its size. A device is as large as where it ends.
-fn open<R: Files<File = File>>(rt: &R, path: &str) -> io::Result<(File, u64)> {
-    let mut file = OpenOptions::new().read(true).write(true).open(rt, path)?;
+/// Opens a file, takes its lock or fails, has its data on the device, and tells its size. A device is
+/// as large as where it ends.
+fn open<R: Files<File = File>>(rt: &R, path: &str, writable: bool) -> io::Result<(File, u64)> {
+    let mut file = OpenOptions::new()
+        .read(true)
+        .write(writable)
+        .open(rt, path)?;
+    if writable {
+        file.try_lock()?;
+    } else {
+        file.try_lock_shared()?;
+    }
+    file.sync_data()?;
     let size = file.seek(SeekFrom::End(0))?;
     Ok((file, size))
 }
@@ -39,37 +57,55 @@ impl FileDisk {
     /// Opens the file for reading and writing. The disk has its size divided by 4,096 blocks, at most
     /// `u32::MAX`; what is left of the file is not touched.
     ///
-    /// It fails where the file does not open. No call was made yet.
+    /// The disk alone holds the file until it is dropped, and what is read of it is what the device
+    /// holds: its data is synced once, which counts as no call. It fails where the file does not
+    /// open, where another disk holds it, and where the sync fails; then nothing was read.
     pub fn on<R: Files<File = File>>(rt: &R, path: &str) -> Result<FileDisk, DiskFailed>
-        ensures fresh { IfOk result IsFresh }
+        ensures fresh { IfOk result (IsFresh true) }
     {
-        let Ok((file, size)) = open(rt, path) else {
+        let Ok((file, size)) = open(rt, path, true) else {
             return Err(DiskFailed);
         };
-        let blocks = (size / BLOCK_BYTES).min(u32::MAX as u64) as u32;
-        Ok(FileDisk {
+        Ok(FileDisk::over(file, size, true))
+    }
+
+    /// The same for reading alone: its writes and flushes are not made, and fail. Any number of such
+    /// disks hold the file at a time, while none that writes does.
+    pub fn to_read<R: Files<File = File>>(rt: &R, path: &str) -> Result<FileDisk, DiskFailed>
+        ensures fresh { IfOk result (IsFresh false) }
+    {
+        let Ok((file, size)) = open(rt, path, false) else {
+            return Err(DiskFailed);
+        };
+        Ok(FileDisk::over(file, size, false))
+    }
+
+    /// A disk over a file of this size, in bytes, before its first call.
+    pub(crate) fn over(file: File, size: u64, writable: bool) -> FileDisk
+        ensures { IsFresh writable result }
+    {
+        FileDisk {
             file,
-            blocks,
+            blocks: (size / BLOCK_BYTES as u64).min(u32::MAX as u64) as u32,
+            writable,
             calls: 0,
             reads: 0,
             faults: 0,
             last_made: true,
-        })
+        }
     }
 }
 
+/// Where a block begins in the file.
+fn place_of(at: u32) -> u64 {
+    u64::from(at) * BLOCK_BYTES as u64
+}
+
 impl Disk for FileDisk {
-    ghost size = { λ d. d.blocks };
+    ghost use Rattle.fx_disk.specs.Seen.{HasWritten, HasFlushed};
+    ghost use Rattle.fx_disks.specs.File.{IsRefused, seen_of};
 
-    ghost told = { λ d. None };
-
-    ghost calls = { λ d. d.calls };
-
-    ghost reads = { λ d. d.reads };
-
-    ghost faults = { λ d. d.faults };
-
-    ghost last_made = { λ d. d.last_made };
+    ghost seen = { λ d. seen_of d };
 
     fn blocks(&self) -> u32 {
         self.blocks
@@ -87,40 +123,47 @@ impl Disk for FileDisk {
         self.faults
     }
 
-    fn read(&mut self, at: u32, into: &mut [u8; 4096]) -> Result<(), DiskFailed> {
+    fn read(&mut self, at: u32, into: &mut [u8; BLOCK_BYTES]) -> Result<(), DiskFailed> {
         if self.reads < MAX_CALLS {
             self.reads += 1;
-            let place = u64::from(at) * BLOCK_BYTES;
-            if self.file.read_exact_at(&mut into[..], place).is_ok() {
+            if self.file.read_exact_at(&mut into[..], place_of(at)).is_ok() {
                 return Ok(());
             }
         }
-        self.faults = self.faults.saturating_add(1);
+        count_up(&mut self.faults);
         Err(DiskFailed)
     }
 
-    fn write(&mut self, at: u32, from: &[u8; 4096]) -> Result<(), DiskFailed> {
-        self.last_made = self.calls < MAX_CALLS;
-        if self.calls < MAX_CALLS {
+    fn write(&mut self, at: u32, from: &[u8; BLOCK_BYTES]) -> Result<(), DiskFailed>
+        ensures written { HasWritten (seen_of self.old) (seen_of self.new) at from.now (is_ok result) }
+        ensures refused { self.old.writable ≡ false → IsRefused self.old self.new (is_ok result) }
+    {
+        self.last_made = self.writable && self.calls < MAX_CALLS;
+        if self.last_made {
             self.calls += 1;
-            let place = u64::from(at) * BLOCK_BYTES;
-            if self.file.write_all_at(&from[..], place).is_ok() {
+            if self.file.write_all_at(&from[..], place_of(at)).is_ok() {
                 return Ok(());
             }
         }
-        self.faults = self.faults.saturating_add(1);
+        count_up(&mut self.faults);
         Err(DiskFailed)
     }
 
-    fn flush(&mut self) -> Result<(), DiskFailed> {
-        self.last_made = self.calls < MAX_CALLS;
-        if self.calls < MAX_CALLS {
+    fn flush(&mut self) -> Result<(), DiskFailed>
+        ensures flushed { HasFlushed (seen_of self.old) (seen_of self.new) (is_ok result) }
+        ensures refused { self.old.writable ≡ false → IsRefused self.old self.new (is_ok result) }
+        // From a flush that failed on every write and flush is refused.
+        ensures shut { OnErr result (self.new.writable ≡ false) }
+    {
+        self.last_made = self.writable && self.calls < MAX_CALLS;
+        if self.last_made {
             self.calls += 1;
             if self.file.sync_data().is_ok() {
                 return Ok(());
             }
         }
-        self.faults = self.faults.saturating_add(1);
+        self.writable = false;
+        count_up(&mut self.faults);
         Err(DiskFailed)
     }
 

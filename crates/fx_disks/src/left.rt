@@ -5,13 +5,14 @@ ghost use Rattle.fx_disk.specs.Loose.{IsWriteOf};
 ghost use Rattle.fx_disk.specs.Steps.{IsRecordOf};
 ghost use Rattle.fx_disks.specs.Calls.{call_of, bytes_by, record_of};
 ghost use Rattle.fx_disks.specs.Tracks.{settled_by, fresh, TrackedAt};
-ghost use Rattle.fx_disks.specs.Zeros.{zero_bytes};
+ghost use Rattle.fx_base.specs.Blocks.{zero_bytes};
 ghost use Rattle.fx_disks.specs.Picks.{CanBeLeft, Wrote, ArePicks, IsImageOf};
 ghost use Rattle.fx_disks.specs.Left.{bytes_of_choice, Chooses, AreChosen, AreNoPicks, HoldsChoices};
 
 use crate::call::Made;
 use crate::pick::{Loose, Pick};
 use crate::track::{Track, follow};
+use fx_base::zero_block;
 use std::alloc::{AllocError, Global};
 
 /// The bytes that the write with this number put into the block, or those at entry where there is no
@@ -113,12 +114,6 @@ fn left_in(
         ),
         Some(Loose::Zeros) => zero_block(),
     }
-}
-
-pub fn zero_block() -> [u8; 4096]
-    ensures { result ≡ zero_bytes }
-{
-    [0; 4096]
 }
 
 // The choices of the picks, or none where they are not picks.

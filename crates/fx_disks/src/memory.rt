@@ -1,17 +1,16 @@
 //! A disk in memory, which keeps each write and flush.
 ghost use Rattle.std.specs.Prelude.{◌≡◌, ℕ, ◌+◌, ◌-◌, ◌<◌, ◌≤◌, ◌^◌, min, Bool, true, false, IsTrue, ◌↔◌, IfOk, IfSome, IsSome, OnOk, OnErr, is_ok, Some, IsPermutation, List, [], ◌∷◌, ◌++◌, length, map, replicate, slice_index_or, slice_set, if◌then◌else◌};
-ghost use Rattle.fx_base.specs.Causes.{Rose};
 ghost use Rattle.fx_disk.specs.Record as model;
-ghost use Rattle.fx_disk.specs.Steps.{IsRecordOf, IsRecordOf-prop, with_flush, MadeOrNot, Writes, Flushes};
+ghost use Rattle.fx_disk.specs.Steps.{IsRecordOf, IsRecordOf-prop, with_flush};
 ghost use Rattle.fx_disks.specs.Calls.{call_of, record_of};
 ghost use Rattle.fx_disks.specs.Index.{IsIndex, IsIndex-prop};
-ghost use Rattle.fx_disks.specs.State.{risen};
 
 use crate::call::Made;
 use crate::image::Image;
-use crate::left::{bytes_by, picked_blocks, zero_block};
+use crate::left::{bytes_by, picked_blocks};
 use crate::numbers::Numbers;
 use crate::pick::Pick;
+use fx_base::{count_up, zero_block};
 use fx_disk::{Disk, DiskFailed, MAX_CALLS};
 use std::alloc::{AllocError, Global};
 
@@ -38,13 +37,6 @@ pub struct MemDisk {
     ghost few_calls: { length (map call_of calls.items) ≤ 2 ^ 63 },
     ghost few_reads: { reads ≤ 2 ^ 63 },
     ghost few_faults: { faults < 2 ^ 64 },
-}
-
-// A count stands still at its end.
-fn raise(count: &mut u64)
-    ensures { count.new ≡ risen count.old }
-{
-    *count = count.saturating_add(1);
 }
 
 fn push_call(calls: &mut Vec<Made>, call: Made) -> bool
@@ -105,7 +97,7 @@ fn keep_write(
 impl MemDisk {
     ghost use Rattle.fx_disks.specs.State.{fresh_state, IsRead, Asks, written_record};
     ghost use Rattle.fx_disks.specs.Picks.{ArePicks, IsImageOf};
-    ghost use Rattle.fx_disks.specs.Zeros.{zero_bytes};
+    ghost use Rattle.fx_base.specs.Blocks.{zero_bytes};
     ghost use Rattle.fx_disks.specs.Memory.{state_of, told_of};
 
     /// A disk of so many blocks of zeros.
@@ -168,12 +160,12 @@ impl MemDisk {
         ensures bytes { result ≡ true → into.new ≡ slice_index_or (told_of self.old).contents at [] }
     {
         if self.reads >= MAX_CALLS {
-            raise(&mut self.faults);
+            count_up(&mut self.faults);
             return false;
         }
         self.reads += 1;
         if self.fail_reads.contains(self.reads) {
-            raise(&mut self.faults);
+            count_up(&mut self.faults);
             return false;
         }
         let number = self.latest.get(at as usize).copied().unwrap_or(0);
@@ -187,7 +179,7 @@ impl MemDisk {
         ensures { Asks (state_of self.old) (state_of self.new) result (written_record (told_of self.old) at from.now result) }
     {
         if self.calls.len() as u64 >= MAX_CALLS {
-            raise(&mut self.faults);
+            count_up(&mut self.faults);
             self.last_made = false;
             return false;
         }
@@ -202,14 +194,14 @@ impl MemDisk {
             from,
             !listed,
         ) {
-            raise(&mut self.starved);
-            raise(&mut self.faults);
+            count_up(&mut self.starved);
+            count_up(&mut self.faults);
             self.last_made = false;
             return false;
         }
         self.last_made = true;
         if listed {
-            raise(&mut self.faults);
+            count_up(&mut self.faults);
             return false;
         }
         true
@@ -220,20 +212,20 @@ impl MemDisk {
         ensures { Asks (state_of self.old) (state_of self.new) result (with_flush (told_of self.old) result) }
     {
         if self.calls.len() as u64 >= MAX_CALLS {
-            raise(&mut self.faults);
+            count_up(&mut self.faults);
             self.last_made = false;
             return false;
         }
         let listed = self.fail_calls.contains(self.calls.len() as u64 + 1);
         if !push_call(&mut self.calls, Made::Flush { ok: !listed }) {
-            raise(&mut self.starved);
-            raise(&mut self.faults);
+            count_up(&mut self.starved);
+            count_up(&mut self.faults);
             self.last_made = false;
             return false;
         }
         self.last_made = true;
         if listed {
-            raise(&mut self.faults);
+            count_up(&mut self.faults);
             return false;
         }
         true
@@ -264,20 +256,11 @@ impl MemDisk {
 }
 
 impl Disk for MemDisk {
-    ghost use Rattle.fx_disks.specs.State.{IsRead, Asks, written_record};
+    ghost use Rattle.fx_disk.specs.Seen.{HasRead, HasWritten, HasFlushed};
+    ghost use Rattle.fx_disks.specs.State.{seen_in, IsRead, Asks, written_record};
     ghost use Rattle.fx_disks.specs.Memory.{state_of, told_of};
 
-    ghost size = { λ d. length (told_of d).entry };
-
-    ghost told = { λ d. Some (told_of d) };
-
-    ghost calls = { λ d. length (told_of d).calls };
-
-    ghost reads = { λ d. d.reads };
-
-    ghost faults = { λ d. d.faults };
-
-    ghost last_made = { λ d. d.last_made };
+    ghost seen = { λ d. seen_in (state_of d) };
 
     fn blocks(&self) -> u32 {
         self.entry.len() as u32
@@ -299,15 +282,7 @@ impl Disk for MemDisk {
         requires { at < length (told_of self.old).entry }
         ensures state { IsRead (state_of self.old) (state_of self.new) (is_ok result) }
         ensures bytes { OnOk result (into.new ≡ slice_index_or (told_of self.old).contents at []) }
-        ensures size { length (told_of self.new).entry ≡ length (told_of self.old).entry }
-        ensures told { Some (told_of self.new) ≡ Some (told_of self.old) }
-        ensures calls { length (told_of self.new).calls ≡ length (told_of self.old).calls }
-        ensures last_made { (state_of self.new).last_made ≡ (state_of self.old).last_made }
-        ensures reads { (state_of self.new).reads ≡ min ((state_of self.old).reads + 1) (2 ^ 63) }
-        ensures limit { OnOk result ((state_of self.old).reads < 2 ^ 63) }
-        ensures faults { (state_of self.old).faults ≤ (state_of self.new).faults }
-        ensures fault { OnErr result (Rose (state_of self.old).faults (state_of self.new).faults) }
-        ensures unfailed { OnOk result ((state_of self.new).faults ≡ (state_of self.old).faults) }
+        ensures read { HasRead (seen_in (state_of self.old)) (seen_in (state_of self.new)) (is_ok result) }
     {
         if self.try_read(at, into) {
             Ok(())
@@ -318,14 +293,10 @@ impl Disk for MemDisk {
 
     fn write(&mut self, at: u32, from: &[u8; 4096]) -> Result<(), DiskFailed>
         requires { at < length (told_of self.old).entry }
-        ensures state { Asks (state_of self.old) (state_of self.new) (is_ok result) (written_record (told_of self.old) at from.now (is_ok result)) }
-        ensures told { MadeOrNot (length (told_of self.old).calls) (length (told_of self.new).calls) (state_of self.new).last_made (is_ok result)
-            (Writes (Some (told_of self.old)) (Some (told_of self.new)) at from.now (is_ok result)) (Some (told_of self.new) ≡ Some (told_of self.old)) }
-        ensures size { length (told_of self.new).entry ≡ length (told_of self.old).entry }
-        ensures reads { (state_of self.new).reads ≡ (state_of self.old).reads }
-        ensures faults { (state_of self.old).faults ≤ (state_of self.new).faults }
-        ensures fault { OnErr result (Rose (state_of self.old).faults (state_of self.new).faults) }
-        ensures unfailed { OnOk result ((state_of self.new).faults ≡ (state_of self.old).faults) }
+        ensures state { Asks (state_of self.old) (state_of self.new) (is_ok result)
+            (written_record (told_of self.old) at from.now (is_ok result)) }
+        ensures written { HasWritten (seen_in (state_of self.old)) (seen_in (state_of self.new))
+            at from.now (is_ok result) }
     {
         if self.try_write(at, from) {
             Ok(())
@@ -335,14 +306,9 @@ impl Disk for MemDisk {
     }
 
     fn flush(&mut self) -> Result<(), DiskFailed>
-        ensures state { Asks (state_of self.old) (state_of self.new) (is_ok result) (with_flush (told_of self.old) (is_ok result)) }
-        ensures told { MadeOrNot (length (told_of self.old).calls) (length (told_of self.new).calls) (state_of self.new).last_made (is_ok result)
-            (Flushes (Some (told_of self.old)) (Some (told_of self.new)) (is_ok result)) (Some (told_of self.new) ≡ Some (told_of self.old)) }
-        ensures size { length (told_of self.new).entry ≡ length (told_of self.old).entry }
-        ensures reads { (state_of self.new).reads ≡ (state_of self.old).reads }
-        ensures faults { (state_of self.old).faults ≤ (state_of self.new).faults }
-        ensures fault { OnErr result (Rose (state_of self.old).faults (state_of self.new).faults) }
-        ensures unfailed { OnOk result ((state_of self.new).faults ≡ (state_of self.old).faults) }
+        ensures state { Asks (state_of self.old) (state_of self.new) (is_ok result)
+            (with_flush (told_of self.old) (is_ok result)) }
+        ensures flushed { HasFlushed (seen_in (state_of self.old)) (seen_in (state_of self.new)) (is_ok result) }
     {
         if self.try_flush() {
             Ok(())

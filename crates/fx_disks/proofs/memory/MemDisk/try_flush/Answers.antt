@@ -16,7 +16,7 @@ invariant_of-self-then-listed c =
       few_blocks = c.args.self.now.few_blocks;
       few_calls = few-more _ _ _ kept room;
       few_reads = c.args.self.now.few_reads;
-      few_faults = rw c.raise-then-listed.ensures (omega arith);
+      few_faults = rw c.count_up-then-listed.ensures.risen (omega arith);
     }
 
 pub invariant_of-self-else-listed : goal.invariant_of-self-else-listed
@@ -37,7 +37,7 @@ returns-then-listed c =
     let room : length (map call_of c.args.self.now.calls.items) < 2 ^ 63 = omega (arith, length-map c.args.self.now.calls.items call_of, c.len.ensures) in
     done-failed _ _ c.contains-listed.result _ _ room (omega (arith, length-map c.args.self.now.calls.items call_of, c.len-2.ensures)) c.contains-listed.ensures
     (flushed-to _ _ _ false (kept-as _ _ (λ ok. model.Flush ok) c.contains-listed.result false (c.if-not-push_call.ensures.kept refl) (ap not c.if-listed.true)))
-    _ c.if-listed.true c.raise-then-listed.ensures
+    _ c.if-listed.true c.count_up-then-listed.ensures.risen
 
 pub returns : goal.returns
 returns c =
