@@ -8,15 +8,15 @@ const HEAD: [u8; 29] = [
     7, 0, 0, 0, 0, 0, 0, 0, 2, 0, 0, 0, 0, 0, 0, 0, 3, 0, 0, 0, 0, 0, 0, 0, 97, 98, 99, 0, 0,
 ];
 
-fn expect_head(rt: &impl Abort, block: &[u8; 4096]) {
+fn expect_head(rt: &impl Abort, block: &[u8; BLOCK_BYTES]) {
     for at in 0..29 {
         assert_eq!(rt; block[at], HEAD[at]);
     }
 }
 
 /// Each edit of one byte makes the block torn.
-fn expect_torn(rt: &impl Abort, block: &mut [u8; 4096]) {
-    for at in 0..4096 {
+fn expect_torn(rt: &impl Abort, block: &mut [u8; BLOCK_BYTES]) {
+    for at in 0..BLOCK_BYTES {
         let kept = block[at];
         block[at] = kept ^ 0x5a;
         assert_eq!(rt; fits(block, 7, 2, 2, 9), Fit::Torn);
@@ -25,8 +25,8 @@ fn expect_torn(rt: &impl Abort, block: &mut [u8; 4096]) {
 }
 
 /// The block with another byte under a right sum is stale.
-fn expect_stale(rt: &impl Abort, block: &mut [u8; 4096], at: usize, byte: u8)
-    requires { at < 4096 }
+fn expect_stale(rt: &impl Abort, block: &mut [u8; BLOCK_BYTES], at: usize, byte: u8)
+    requires { at < BLOCK_BYTES }
 {
     let kept = block[at];
     block[at] = byte;
@@ -38,7 +38,7 @@ fn expect_stale(rt: &impl Abort, block: &mut [u8; 4096], at: usize, byte: u8)
 
 #[test]
 fn blocks(rt: HostRuntime) {
-    let mut block = [0xff; 4096];
+    let mut block = [0xff; BLOCK_BYTES];
     let chain = pack(7, 2, 9, b"abc", &mut block);
     expect_head(&rt, &block);
     let whole = Fit::Fits {

@@ -22,9 +22,9 @@ add_word s w =
 abbrev pub sums_of : ℕ → Sums
 sums_of n = record { low = n % 2 ^ 32; high = n / 2 ^ 32 }
 
-abbrev pub value_of : Sums → ℕ
-value_of s = s.high * 2 ^ 32 + s.low
+abbrev pub checksum_of : Sums → ℕ
+checksum_of s = s.high * 2 ^ 32 + s.low
 
 -- the checksum of the bytes, begun at the checksum of what stands before them
 abbrev pub fletch : ℕ → List ℕ → ℕ
-fletch start bytes = value_of (fold add_word (sums_of start) (words bytes))
+fletch start bytes = checksum_of (fold add_word (sums_of start) (words bytes))

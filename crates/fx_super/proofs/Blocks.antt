@@ -1,17 +1,17 @@
 -- A superblock taken apart: what stands after the version, the body and the block.
-use Rattle.std.proofs.Common.{◌≡◌, ℕ, ◌+◌, ◌%◌, ◌^◌, ◌<◌, ◌≤◌, inl, inr, List, [], ◌∷◌, ◌++◌, length, take, drop, refl, sym, ap, ◌∙◌, arith, length-append, take-append-drop}
-use Rattle.std.specs.Prelude.{All, fold}
-use Rattle.std.proofs.Math.Nat.{mod-lt}
+use Rattle.std.proofs.Common.{◌≡◌, ℕ, ◌^◌, ◌<◌, ◌≤◌, inl, inr, List, [], ◌++◌, length, take, drop, refl, sym, ap, ◌∙◌, arith, length-append, take-append-drop}
+use Rattle.std.specs.Prelude.{All}
 use Rattle.std.proofs.lemmas.List.{drop-drop, take_at, drop_at, get_or_past}
 use Rattle.std.proofs.lemmas.Bool.{cases_lt}
 use Rattle.byteorder.specs.Endian.{little_bytes, little_number}
 use Rattle.byteorder.specs.Numbers.{little_number-reads_back}
-use Rattle.fx_sum.specs.Checksum.{Sums, add_word, sums_of, words, fletch}
+use Rattle.fx_sum.specs.Checksum.{fletch}
+use Rattle.fx_sum.proofs.Fits.{fletch_fits}
 use Rattle.fx_super.specs.Layers.{layer_bytes}
 use Rattle.fx_super.specs.declared.superblock.TheConstants.{MAGIC}
-use Rattle.fx_super.specs.Super.{Fields, KeepsRules, IsAfterVersion, IsLayer, IsSuper, sizes, counters, padding, after_version, super_body, super_block}
+use Rattle.fx_super.specs.Super.{Fields, KeepsRules, IsAfterVersion, IsLayer, IsSuper, sizes, counters, super_padding, after_version, super_body, super_block}
 use Rattle.fx_super.proofs.Lists.{length-layer_bytes, same_list, EachFits}
-use Rattle.fx_super.proofs.Numbers.{reads_4, reads_8, same_8}
+use Rattle.fx_base.proofs.Bytes.{reads_4, reads_8, same_8}
 use Rattle.fx_super.proofs.Parts.{sizes_read, counters_read, same_sizes, same_counters}
 
 -- The parts of what stands after the version, by their places.
@@ -51,8 +51,8 @@ length-counters : (s c b i t o a : ℕ) → length (counters s c b i t o a) ≡ 
 unfolding counters
 length-counters s c b i t o a = refl
 
-length-padding : length padding ≡ 3744
-unfolding padding
+length-padding : length super_padding ≡ 3744
+unfolding super_padding
 length-padding = refl
 
 abbrev sizes_in : Fields → List ℕ
@@ -62,7 +62,7 @@ abbrev counters_in : Fields → List ℕ
 counters_in f = counters f.sequence f.chain f.base f.next_id f.next_store (length f.objects) (length f.allocs)
 
 abbrev tail_of : Fields → List ℕ
-tail_of f = little_bytes 8 f.floor ++ padding
+tail_of f = little_bytes 8 f.floor ++ super_padding
 
 pub after_made : (bytes : List ℕ) (f : Fields) → IsAfterVersion bytes f → bytes ≡ after_version f
 unfolding after_version
@@ -118,7 +118,7 @@ same_after bytes f g v h k =
     let c = same_counters part f.sequence f.chain f.base f.next_id f.next_store (length f.objects) (length f.allocs) 0 g.sequence g.chain g.base g.next_id g.next_store (length g.objects) (length g.allocs) 0 (counters_read part f.sequence f.chain f.base f.next_id f.next_store (length f.objects) (length f.allocs) h.counters_are) (counters_read part g.sequence g.chain g.base g.next_id g.next_store (length g.objects) (length g.allocs) k.counters_are) in
     let objects = same_list (take 128 (drop 68 bytes)) (length f.objects) (length g.objects) f.objects g.objects c.objects h.objects_are k.objects_are in
     let allocs = same_list (take 128 (drop 196 bytes)) (length f.allocs) (length g.allocs) f.allocs g.allocs c.allocs h.allocs_are k.allocs_are in
-    let floor = same_8 (drop 324 bytes) padding padding f.floor g.floor h.floor_fits k.floor_fits h.tail_is k.tail_is in
+    let floor = same_8 (drop 324 bytes) super_padding super_padding f.floor g.floor h.floor_fits k.floor_fits h.tail_is k.tail_is in
     same_records f g v s.blocks s.generation s.ring c.sequence c.chain c.base c.next_id c.next_store objects allocs floor.0
 
 pub length-after_version : (f : Fields) → length f.objects ≤ 32 → length f.allocs ≤ 32 → length (after_version f) ≡ 4076
@@ -128,29 +128,12 @@ length-after_version f o a =
     let e3 = length-append (layer_bytes f.objects) (layer_bytes f.allocs ++ tail_of f) in
     let e2 = length-append (counters_in f) (layer_bytes f.objects ++ (layer_bytes f.allocs ++ tail_of f)) in
     let e1 = length-append (sizes_in f) (counters_in f ++ (layer_bytes f.objects ++ (layer_bytes f.allocs ++ tail_of f))) in
-    let tail_len : length (tail_of f) ≡ 3752 = omega (arith, length-append (little_bytes 8 f.floor) padding, length-padding) in
+    let tail_len : length (tail_of f) ≡ 3752 = omega (arith, length-append (little_bytes 8 f.floor) super_padding, length-padding) in
     omega (arith, e1, e2, e3, e4, tail_len, length-layer_bytes f.objects o, length-layer_bytes f.allocs a, length-sizes f.blocks f.generation f.ring, length-counters f.sequence f.chain f.base f.next_id f.next_store (length f.objects) (length f.allocs))
 
 pub length-super_body : (f : Fields) → length f.objects ≤ 32 → length f.allocs ≤ 32 → length (super_body f) ≡ 4088
 unfolding super_body
 length-super_body f o a = omega (arith, length-after_version f o a)
-
--- the checksum fits eight bytes
-record Halves (s : Sums) : Type 0 where
-  low : s.low < 2 ^ 32
-  high : s.high < 2 ^ 32
-
-halves_kept : (s : Sums) (ws : List ℕ) → Halves s → Halves (fold add_word s ws)
-halves_kept s [] h = h
-halves_kept s (w ∷ ws) h =
-    let low = (s.low + w) % 2 ^ 32 in
-    halves_kept (add_word s w) ws (record { low = mod-lt (s.low + w) (omega arith); high = mod-lt (s.high + low) (omega arith) })
-
-pub fletch_fits : (bytes : List ℕ) → fletch 0 bytes < 2 ^ 64
-fletch_fits bytes =
-    let begun : Halves (sums_of 0) = record { low = omega arith; high = omega arith } in
-    let ended = halves_kept (sums_of 0) (words bytes) begun in
-    omega (arith, ended.low, ended.high)
 
 -- What a superblock's bytes are, by their places.
 pub record Stands (block : List ℕ) (f : Fields) : Type 0 where
@@ -172,7 +155,7 @@ stands block f h =
     record {
       long = omega (arith, ap length h.bytes_are, length-append (super_body f) (little_bytes 8 sum), len);
       body_is = body_is;
-      sum_is = ap (little_number 8) back ∙ little_number-reads_back 8 sum [] (fletch_fits (super_body f)) ∙ ap (fletch 0) (sym body_is);
+      sum_is = ap (little_number 8) back ∙ little_number-reads_back 8 sum [] (fletch_fits 0 (super_body f) (omega arith)) ∙ ap (fletch 0) (sym body_is);
       magic_is = reads_8 block ((little_bytes 4 f.version ++ after_version f) ++ little_bytes 8 sum) MAGIC (omega arith) h.bytes_are;
       version_is = reads_4 (drop 8 block) (after_version f ++ little_bytes 8 sum) f.version version_fits (ap (drop 8) h.bytes_are);
       after_is = ap (drop 12) body_is;

@@ -1,5 +1,5 @@
 -- One spelling, and the chosen superblock.
-use Rattle.std.proofs.Common.{◌≡◌, ℕ, zero, suc, ◌<◌, ◌≤◌, List, [], ◌⊎◌, inl, inr, Option, Some, None, Bool, true, false, length, get_or, drop, take, replicate, refl, sym, ap, subst, ◌∙◌, arith, get_or-set_same, get_or-set_other}
+use Rattle.std.proofs.Common.{◌≡◌, ℕ, ◌<◌, ◌≤◌, List, [], ◌⊎◌, inl, inr, Option, Some, None, Bool, true, false, length, get_or, drop, take, replicate, refl, sym, ap, subst, ◌∙◌, arith, get_or-set_same, get_or-set_other}
 use Rattle.std.specs.Prelude.{MatchOption, nat_le, if◌then◌else◌}
 use Rattle.std.proofs.Math.ListN.{set}
 use Rattle.std.proofs.lemmas.Bool.{leb-true, leb-false}
@@ -9,6 +9,7 @@ use Rattle.fx_super.specs.declared.choice.Which.{Which}
 use Rattle.fx_super.specs.declared.choice.Which.TheVariants.{A, B}
 use Rattle.fx_super.specs.Super.{Fields, IsSuper, IsVersion}
 use Rattle.fx_super.specs.Chosen.{IsChosen, HasNoChosen, HasGeneration, block_of, block_number, other, choice}
+use Rattle.fx_base.proofs.Lists.{zero_at}
 use Rattle.fx_super.proofs.Blocks.{stands, after_parts, same_after}
 
 pub one_fields : (block : List ℕ) (f g : Fields) → IsSuper block f → IsSuper block g → f ≡ g
@@ -18,11 +19,6 @@ one_fields block f g h k =
 
 pub no_other_version : (block : List ℕ) (f : Fields) (v : ℕ) → IsSuper block f → IsVersion block v → ⊥
 no_other_version block f v h k = k.is_other (sym k.version_is ∙ (stands block f h).version_is ∙ h.rules.version_is)
-
-zero_at : (n i : ℕ) → get_or {A = ℕ} (replicate n 0) i 0 ≡ 0
-zero_at zero i = refl
-zero_at (suc n) zero = refl
-zero_at (suc n) (suc i) = zero_at n i
 
 pub zeros_have_no_magic : (n : ℕ) → little_number 8 (replicate n 0) ≡ MAGIC → ⊥
 zeros_have_no_magic n h = omega (arith, h, zero_at n 0, zero_at n 1, zero_at n 2, zero_at n 3, zero_at n 4, zero_at n 5, zero_at n 6, zero_at n 7)

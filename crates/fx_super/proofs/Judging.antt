@@ -9,9 +9,9 @@ use Rattle.fx_super.specs.declared.superblock.TheConstants.{MAGIC}
 use Rattle.fx_super.specs.declared.superblock.Super.{Super}
 use Rattle.fx_super.specs.declared.decode.SuperFault.{SuperFault}
 use Rattle.fx_super.specs.declared.decode.SuperFault.TheVariants.{Bad, Version}
-use Rattle.fx_super.specs.Layers.{IsListed}
-use Rattle.fx_super.specs.Super.{Fields, KeepsRules, AreSizes, AreCounters, IsAfterVersion, IsSuper, IsVersion, Decoded, fields_of, padding, after_version, super_body, super_block}
-use Rattle.fx_super.proofs.Numbers.{IsBytes, IsBytes-drop, IsBytes-take, number_stands_4, number_stands_8, same_8}
+use Rattle.fx_super.specs.Layers.{HoldsLayers}
+use Rattle.fx_super.specs.Super.{Fields, KeepsRules, AreSizes, AreCounters, IsAfterVersion, IsSuper, IsVersion, Decoded, fields_of, super_padding, after_version, super_body, super_block}
+use Rattle.fx_base.proofs.Bytes.{IsBytes, IsBytes-drop, IsBytes-take, wide4, wide8, same_8}
 use Rattle.fx_super.proofs.Blocks.{stands, after_made, after_parts, same_after}
 use Rattle.fx_super.proofs.Chosen.{one_fields, no_other_version}
 
@@ -70,12 +70,12 @@ block_made block stated sum magic version after f len fits l right same one made
     let body_len : length body ≡ 4088 = omega (arith, length-take 4088 block) in
     let end_len : length end ≡ 8 = omega (arith, length-drop 4088 block) in
     let body_fits : IsBytes body = IsBytes-take 4088 block fits in
-    let first : take 8 body ≡ little_bytes 8 MAGIC = sym (number_stands_8 body (omega arith) body_fits) ∙ ap (little_bytes 8) (magic_in_front block ∙ sym l.magic_is ∙ same) in
-    let second : take 4 (drop 8 body) ≡ little_bytes 4 f.version = sym (number_stands_4 (drop 8 body) (omega (arith, length-drop 8 body)) (IsBytes-drop 8 body body_fits)) ∙ ap (little_bytes 4) (version_in_front block ∙ sym l.version_is ∙ one) in
+    let first : take 8 body ≡ little_bytes 8 MAGIC = sym (wide8.stands body (omega arith) body_fits) ∙ ap (little_bytes 8) (magic_in_front block ∙ sym l.magic_is ∙ same) in
+    let second : take 4 (drop 8 body) ≡ little_bytes 4 f.version = sym (wide4.stands (drop 8 body) (omega (arith, length-drop 8 body)) (IsBytes-drop 8 body body_fits)) ∙ ap (little_bytes 4) (version_in_front block ∙ sym l.version_is ∙ one) in
     let third : drop 4 (drop 8 body) ≡ after_version f = drop-drop 4 8 body ∙ sym l.after_is ∙ after_made after f made in
     let later : drop 8 body ≡ little_bytes 4 f.version ++ after_version f = sym (take-append-drop 4 (drop 8 body)) ∙ ap (λ (x : List ℕ). take 4 (drop 8 body) ++ x) third ∙ ap (λ (x : List ℕ). x ++ after_version f) second in
     let body_is : body ≡ super_body f = sym (take-append-drop 8 body) ∙ ap (λ (x : List ℕ). take 8 body ++ x) later ∙ ap (λ (x : List ℕ). x ++ (little_bytes 4 f.version ++ after_version f)) first in
-    let end_is : end ≡ little_bytes 8 (fletch 0 (super_body f)) = sym (number_stands_8 end (omega arith) (IsBytes-drop 4088 block fits) ∙ take_all 8 end (omega arith)) ∙ ap (little_bytes 8) (sym l.stated_is ∙ right ∙ l.sum_is ∙ ap (fletch 0) body_is) in
+    let end_is : end ≡ little_bytes 8 (fletch 0 (super_body f)) = sym (wide8.stands end (omega arith) (IsBytes-drop 4088 block fits) ∙ take_all 8 end (omega arith)) ∙ ap (little_bytes 8) (sym l.stated_is ∙ right ∙ l.sum_is ∙ ap (fletch 0) body_is) in
     record {
       rules = rules;
       bytes_are = sym (take-append-drop 4088 block) ∙ ap (λ (x : List ℕ). x ++ end) body_is ∙ ap (λ (x : List ℕ). super_body f ++ x) end_is;
@@ -113,20 +113,20 @@ cut_up bytes r1 r2 r3 sizes counters objects allocs tail s e1 c e2 o e3 a t =
     }
 
 -- the zeros after the floor
-padding_is : padding ≡ replicate 3744 0
-unfolding padding
+padding_is : super_padding ≡ replicate 3744 0
+unfolding super_padding
 padding_is = refl
 
 abbrev AreZero : List ℕ → Type 0
 AreZero xs = xs ≡ replicate (length xs) 0
 
-pub zeros_are_padding : (tail zeros : List ℕ) (floor : ℕ) → length zeros ≡ 3744 → tail ≡ little_bytes 8 floor ++ zeros → AreZero zeros → tail ≡ little_bytes 8 floor ++ padding
+pub zeros_are_padding : (tail zeros : List ℕ) (floor : ℕ) → length zeros ≡ 3744 → tail ≡ little_bytes 8 floor ++ zeros → AreZero zeros → tail ≡ little_bytes 8 floor ++ super_padding
 zeros_are_padding tail zeros floor len e zero =
     e ∙ ap (λ (x : List ℕ). little_bytes 8 floor ++ x) (zero ∙ ap (λ (n : ℕ). replicate n 0) len ∙ sym padding_is)
 
-pub padding_is_zero : (tail zeros : List ℕ) (floor : ℕ) (f : Fields) → floor < 2 ^ 64 → f.floor < 2 ^ 64 → length zeros ≡ 3744 → tail ≡ little_bytes 8 floor ++ zeros → tail ≡ little_bytes 8 f.floor ++ padding → AreZero zeros
+pub padding_is_zero : (tail zeros : List ℕ) (floor : ℕ) (f : Fields) → floor < 2 ^ 64 → f.floor < 2 ^ 64 → length zeros ≡ 3744 → tail ≡ little_bytes 8 floor ++ zeros → tail ≡ little_bytes 8 f.floor ++ super_padding → AreZero zeros
 padding_is_zero tail zeros floor f fits f_fits len e d =
-    (same_8 tail zeros padding floor f.floor fits f_fits e d).1 ∙ padding_is ∙ ap (λ (n : ℕ). replicate n 0) (sym len)
+    (same_8 tail zeros super_padding floor f.floor fits f_fits e d).1 ∙ padding_is ∙ ap (λ (n : ℕ). replicate n 0) (sym len)
 
 -- the parts that were read, at their places
 pub sizes_here : (bytes part : List ℕ) (b g r : ℕ) → part ≡ take 20 bytes → AreSizes part b g r → AreSizes (take 20 bytes) b g r
@@ -142,10 +142,10 @@ counted_here bytes counters s c b i t o a o' a' e p q h =
     let first = subst (λ (n : ℕ). AreCounters (take 48 (drop 20 bytes)) s c b i t n a) p moved in
     subst (λ (n : ℕ). AreCounters (take 48 (drop 20 bytes)) s c b i t o' n) q first
 
-pub listed_there : (part there : List ℕ) (count : ℕ) (list : List ℕ) → part ≡ there → length list ≡ count → IsListed there (length list) list → IsListed part count list
+pub listed_there : (part there : List ℕ) (count : ℕ) (list : List ℕ) → part ≡ there → length list ≡ count → HoldsLayers there (length list) list → HoldsLayers part count list
 listed_there part there count list e n h =
     record { count_is = n; count_fits = omega (arith, h.count_fits); each_fits = h.each_fits; bytes_are = e ∙ h.bytes_are }
 
-pub listed_here : (part there : List ℕ) (count : ℕ) (list : List ℕ) → part ≡ there → IsListed part count list → IsListed there (length list) list
+pub listed_here : (part there : List ℕ) (count : ℕ) (list : List ℕ) → part ≡ there → HoldsLayers part count list → HoldsLayers there (length list) list
 listed_here part there count list e h =
     record { count_is = refl; count_fits = omega (arith, h.count_is, h.count_fits); each_fits = h.each_fits; bytes_are = sym e ∙ h.bytes_are }

@@ -6,8 +6,8 @@ use Rattle.std.proofs.Math.ListN.{set, length-set}
 use Rattle.std.proofs.lemmas.List.{drop-replicate, drop-set-lt, drop-drop, length-replicate, nil_from_length, get_or-take, get_or_past, take_at, drop_at}
 use Rattle.std.proofs.lemmas.Bool.{cases_lt}
 use Rattle.byteorder.specs.Endian.{little_bytes, little_number, IsRead}
-use Rattle.fx_super.specs.Layers.{padded, layer_bytes, IsPadded, IsListed}
-use Rattle.fx_super.proofs.Numbers.{IsBytes, IsBytes-drop, number_stands_4, number_fits_4, same_4}
+use Rattle.fx_super.specs.Layers.{padded_layers, layer_bytes, IsPadded, HoldsLayers}
+use Rattle.fx_base.proofs.Bytes.{IsBytes, IsBytes-drop, wide4, number_fits_4, same_4}
 
 -- a list copied to the front of 32 zeros
 pub copied_is_padded : (xs : List ℕ) → length xs ≤ 32 → IsPadded (xs ++ drop (length xs) (replicate 32 0)) (length xs)
@@ -46,7 +46,7 @@ fits_append [] ys h k i = k i
 fits_append (x ∷ xs) ys h k zero = h 0
 fits_append (x ∷ xs) ys h k (suc i) = fits_append xs ys (fits_tail x xs h) k i
 
-pub fits_padded : (list : List ℕ) → EachFits list → EachFits (padded list)
+pub fits_padded : (list : List ℕ) → EachFits list → EachFits (padded_layers list)
 fits_padded list h = fits_append list (replicate (32 - length list) 0) h (fits_zeros (32 - length list))
 
 pub fits_take : (n : ℕ) (xs : List ℕ) → EachFits xs → EachFits (take n xs)
@@ -56,7 +56,7 @@ fits_take n xs h i =
       | inr le ↦ rw (get_or_past (take n xs) i 0 (omega (arith, length-take n xs))) (omega arith)
     ]
 
-pub length-padded : (list : List ℕ) → length list ≤ 32 → length (padded list) ≡ 32
+pub length-padded : (list : List ℕ) → length list ≤ 32 → length (padded_layers list) ≡ 32
 length-padded list le = omega (arith, length-append list (replicate (32 - length list) 0), length-replicate {A = ℕ} (32 - length list) 0)
 
 pub length-numbers : (xs : List ℕ) → length (flat_map (little_bytes 4) xs) ≡ 4 * length xs
@@ -64,7 +64,7 @@ length-numbers [] = refl
 length-numbers (x ∷ xs) = let ih = length-numbers xs in omega (arith, ih)
 
 pub length-layer_bytes : (list : List ℕ) → length list ≤ 32 → length (layer_bytes list) ≡ 128
-length-layer_bytes list le = omega (arith, length-numbers (padded list), length-padded list le)
+length-layer_bytes list le = omega (arith, length-numbers (padded_layers list), length-padded list le)
 
 -- numbers that are spelled by the same bytes are the same
 pub same_numbers : (xs ys : List ℕ) → length xs ≡ length ys → EachFits xs → EachFits ys → flat_map (little_bytes 4) xs ≡ flat_map (little_bytes 4) ys → xs ≡ ys
@@ -80,7 +80,7 @@ pub read_spells : (src dst : List ℕ) → length src ≡ 4 * length dst → IsB
 read_spells src [] len fits h = sym (nil_from_length src (omega arith))
 read_spells src (x ∷ xs) len fits h =
     let x_is : x ≡ little_number 4 src = h 0 (omega arith) in
-    let front : little_bytes 4 x ≡ take 4 src = ap (little_bytes 4) x_is ∙ number_stands_4 src (omega arith) fits in
+    let front : little_bytes 4 x ≡ take 4 src = ap (little_bytes 4) x_is ∙ wide4.stands src (omega arith) fits in
     let after : IsRead little_number 4 (drop 4 src) xs = λ k lt. h (suc k) (omega arith) ∙ ap (little_number 4) (ap (λ (n : ℕ). drop n src) (omega arith) ∙ sym (drop-drop (4 * k) 4 src)) in
     let rest : flat_map (little_bytes 4) xs ≡ drop 4 src = read_spells (drop 4 src) xs (omega (arith, length-drop 4 src)) (IsBytes-drop 4 src fits) after in
     ap (λ (a : List ℕ). a ++ flat_map (little_bytes 4) xs) front ∙ ap (λ (b : List ℕ). take 4 src ++ b) rest ∙ take-append-drop 4 src
@@ -94,10 +94,10 @@ read_fits src dst fits h i =
     ]
 
 -- the list that was read
-pub read_is_listed : (bytes dst : List ℕ) (count : ℕ) → count ≤ 32 → length dst ≡ 32 → EachFits dst → flat_map (little_bytes 4) dst ≡ bytes → drop count dst ≡ replicate (32 - count) 0 → IsListed bytes count (take count dst)
+pub read_is_listed : (bytes dst : List ℕ) (count : ℕ) → count ≤ 32 → length dst ≡ 32 → EachFits dst → flat_map (little_bytes 4) dst ≡ bytes → drop count dst ≡ replicate (32 - count) 0 → HoldsLayers bytes count (take count dst)
 read_is_listed bytes dst count le len fits spells unused =
     let count_is : length (take count dst) ≡ count = omega (arith, length-take count dst) in
-    let whole : padded (take count dst) ≡ dst =
+    let whole : padded_layers (take count dst) ≡ dst =
     ap (λ (n : ℕ). take count dst ++ replicate (32 - n) 0) count_is ∙ ap (λ (rest : List ℕ). take count dst ++ rest) (sym unused) ∙ take-append-drop count dst in
     record {
       count_is = count_is;
@@ -107,16 +107,16 @@ read_is_listed bytes dst count le len fits spells unused =
     }
 
 -- where a list stands, the places that it does not use are zero
-pub listed_unused : (bytes dst : List ℕ) (count : ℕ) (list : List ℕ) → length dst ≡ 32 → EachFits dst → flat_map (little_bytes 4) dst ≡ bytes → IsListed bytes count list → drop count dst ≡ replicate (32 - count) 0
+pub listed_unused : (bytes dst : List ℕ) (count : ℕ) (list : List ℕ) → length dst ≡ 32 → EachFits dst → flat_map (little_bytes 4) dst ≡ bytes → HoldsLayers bytes count list → drop count dst ≡ replicate (32 - count) 0
 listed_unused bytes dst count list len fits spells h =
-    let whole : dst ≡ padded list = same_numbers dst (padded list) (omega (arith, length-padded list (omega (arith, h.count_is, h.count_fits)))) fits (fits_padded list h.each_fits) (spells ∙ h.bytes_are) in
+    let whole : dst ≡ padded_layers list = same_numbers dst (padded_layers list) (omega (arith, length-padded list (omega (arith, h.count_is, h.count_fits)))) fits (fits_padded list h.each_fits) (spells ∙ h.bytes_are) in
     ap (drop count) whole ∙ drop_at list (replicate (32 - length list) 0) count h.count_is ∙ ap (λ (n : ℕ). replicate (32 - n) 0) h.count_is
 
 -- one list stands in the bytes
-pub same_list : (bytes : List ℕ) (m n : ℕ) (xs ys : List ℕ) → m ≡ n → IsListed bytes m xs → IsListed bytes n ys → xs ≡ ys
+pub same_list : (bytes : List ℕ) (m n : ℕ) (xs ys : List ℕ) → m ≡ n → HoldsLayers bytes m xs → HoldsLayers bytes n ys → xs ≡ ys
 same_list bytes m n xs ys e h k =
     let len : length xs ≡ length ys = omega (arith, h.count_is, k.count_is) in
     let xs_most : length xs ≤ 32 = omega (arith, h.count_is, h.count_fits) in
     let ys_most : length ys ≤ 32 = omega (arith, k.count_is, k.count_fits) in
-    let whole : padded xs ≡ padded ys = same_numbers (padded xs) (padded ys) (omega (arith, length-padded xs xs_most, length-padded ys ys_most)) (fits_padded xs h.each_fits) (fits_padded ys k.each_fits) (sym h.bytes_are ∙ k.bytes_are) in
+    let whole : padded_layers xs ≡ padded_layers ys = same_numbers (padded_layers xs) (padded_layers ys) (omega (arith, length-padded xs xs_most, length-padded ys ys_most)) (fits_padded xs h.each_fits) (fits_padded ys k.each_fits) (sym h.bytes_are ∙ k.bytes_are) in
     sym (take-append_seam xs (replicate (32 - length xs) 0)) ∙ ap (take (length xs)) whole ∙ take_at ys (replicate (32 - length ys) 0) (length xs) (sym len)

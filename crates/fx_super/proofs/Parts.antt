@@ -3,7 +3,7 @@ use Rattle.std.proofs.Common.{◌≡◌, ℕ, ◌^◌, ◌<◌, List, [], ◌++�
 use Rattle.std.proofs.lemmas.List.{nil_from_length}
 use Rattle.byteorder.specs.Endian.{little_bytes}
 use Rattle.fx_super.specs.Super.{sizes, counters, AreSizes, AreCounters}
-use Rattle.fx_super.proofs.Numbers.{same_4, same_8}
+use Rattle.fx_base.proofs.Bytes.{same_4, same_8}
 
 -- pieces that were taken one after another
 pub four_pieces : (x r1 r2 r3 r4 a b c d : List ℕ) → x ≡ a ++ r1 → r1 ≡ b ++ r2 → r2 ≡ c ++ r3 → r3 ≡ d ++ r4 → x ≡ a ++ (b ++ (c ++ (d ++ r4)))

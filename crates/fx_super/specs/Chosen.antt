@@ -25,7 +25,8 @@ GoesBefore B generation others = others < generation
 -- one too.
 pub record IsChosen (image : List (List ℕ)) (which : Which) (f : Fields) : Type 0 where
   pub is_super : IsSuper (block_of image which) f
-  pub goes_before : (g : Fields) → IsSuper (block_of image (other which)) g → GoesBefore which f.generation g.generation
+  pub goes_before : (g : Fields) → IsSuper (block_of image (other which)) g
+      → GoesBefore which f.generation g.generation
 
 -- Neither block is a superblock.
 abbrev pub HasNoChosen : List (List ℕ) → Type 0
@@ -41,4 +42,5 @@ choice (Some a) (Some b) = if nat_le b a then Some A else Some B
 -- The block is a superblock of this generation, or it is none.
 abbrev pub HasGeneration : List ℕ → Option ℕ → Type 0
 HasGeneration block None = (f : Fields) → IsSuper block f → ⊥
-HasGeneration block (Some generation) = (f : Fields) × (IsSuper block f × (f.generation ≡ generation))
+HasGeneration block (Some generation) = (f : Fields)
+    × (IsSuper block f × (f.generation ≡ generation))

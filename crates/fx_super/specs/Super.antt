@@ -2,7 +2,7 @@
 use Rattle.std.specs.Prelude.{◌≡◌, ◌≢◌, ◌<◌, ◌≤◌, ℕ, ◌+◌, ◌*◌, ◌^◌, List, ◌++◌, [], All, length, take, drop, replicate, Result, Ok, Err}
 use Rattle.byteorder.specs.Endian.{little_bytes, little_number}
 use Rattle.fx_sum.specs.Checksum.{fletch}
-use Rattle.fx_super.specs.Layers.{layer_bytes, IsListed}
+use Rattle.fx_super.specs.Layers.{layer_bytes, HoldsLayers}
 use Rattle.fx_super.specs.declared.layers.TheConstants.{LAYERS, LAYER_BYTES}
 use Rattle.fx_super.specs.declared.superblock.TheConstants.{MAGIC, VERSION_AT, SUM_AT, SIZE_BYTES, COUNTER_BYTES, PADDING, VERSION, MIN_RING, MAX_RING, MAX_BLOCKS, RING_SHARE, SPARE_BLOCKS, RING_AT, MAX_GENERATION, COUNT_END, MAX_NEXT_STORE}
 use Rattle.fx_super.specs.declared.superblock.Super.{Super}
@@ -87,36 +87,48 @@ pub record KeepsRules (f : Fields) : Type 0 where
 -- the rules of the version, the sizes and the generation
 abbrev pub HasSizes : Fields → Type 0
 HasSizes f =
-    (f.version ≡ VERSION) × (MIN_RING ≤ f.ring) × (f.ring ≤ MAX_RING) × (f.blocks ≤ MAX_BLOCKS) × (RING_SHARE * f.ring + SPARE_BLOCKS ≤ f.blocks)
+    (f.version ≡ VERSION) × (MIN_RING ≤ f.ring) × (f.ring ≤ MAX_RING) × (f.blocks ≤ MAX_BLOCKS)
+    × (RING_SHARE * f.ring + SPARE_BLOCKS ≤ f.blocks)
     × (1 ≤ f.generation) × (f.generation ≤ MAX_GENERATION)
 
 -- the rules of the counters and the floor
 abbrev pub HasCounters : Fields → Type 0
 HasCounters f =
-    (f.sequence < COUNT_END) × (f.base < COUNT_END) × (1 ≤ f.next_id) × (f.next_id ≤ COUNT_END) × (1 ≤ f.next_store) × (f.next_store ≤ MAX_NEXT_STORE)
+    (f.sequence < COUNT_END) × (f.base < COUNT_END) × (1 ≤ f.next_id) × (f.next_id ≤ COUNT_END)
+    × (1 ≤ f.next_store) × (f.next_store ≤ MAX_NEXT_STORE)
     × (1 ≤ f.floor) × (f.floor ≤ f.generation)
 
 -- the blocks of the device, the generation, the blocks of the ring, and zero
 unfoldable pub sizes : ℕ → ℕ → ℕ → List ℕ
 sizes blocks generation ring =
-    little_bytes 4 blocks ++ (little_bytes 8 generation ++ (little_bytes 4 ring ++ little_bytes 4 0))
+    little_bytes 4 blocks
+    ++ (little_bytes 8 generation
+    ++ (little_bytes 4 ring
+    ++ little_bytes 4 0))
 
 -- sequence, chain, base, next id, next store, the number of layers of each tree, and zero
 unfoldable pub counters : ℕ → ℕ → ℕ → ℕ → ℕ → ℕ → ℕ → List ℕ
 counters sequence chain base next_id next_store objects allocs =
-    little_bytes 8 sequence ++ (little_bytes 8 chain ++ (little_bytes 8 base ++ (little_bytes 8 next_id ++ (little_bytes 4 next_store
-    ++ (little_bytes 4 objects ++ (little_bytes 4 allocs ++ little_bytes 4 0))))))
+    little_bytes 8 sequence
+    ++ (little_bytes 8 chain
+    ++ (little_bytes 8 base
+    ++ (little_bytes 8 next_id
+    ++ (little_bytes 4 next_store
+    ++ (little_bytes 4 objects
+    ++ (little_bytes 4 allocs
+    ++ little_bytes 4 0))))))
 
 -- the zeros after the floor
-unfoldable pub padding : List ℕ
-padding = replicate PADDING 0
+unfoldable pub super_padding : List ℕ
+super_padding = replicate PADDING 0
 
 -- what follows the version: these, the lists of layers, the floor, and zeros
 unfoldable pub after_version : Fields → List ℕ
 after_version f =
     sizes f.blocks f.generation f.ring
-    ++ (counters f.sequence f.chain f.base f.next_id f.next_store (length f.objects) (length f.allocs)
-    ++ (layer_bytes f.objects ++ (layer_bytes f.allocs ++ (little_bytes 8 f.floor ++ padding))))
+    ++ (counters f.sequence f.chain f.base f.next_id f.next_store
+    (length f.objects) (length f.allocs)
+    ++ (layer_bytes f.objects ++ (layer_bytes f.allocs ++ (little_bytes 8 f.floor ++ super_padding))))
 
 -- all of a superblock but its sum
 unfoldable pub super_body : Fields → List ℕ
@@ -146,7 +158,8 @@ pub record AreSizes (bytes : List ℕ) (blocks generation ring : ℕ) : Type 0 w
   pub bytes_are : bytes ≡ sizes blocks generation ring
 
 -- These bytes are the counters, and each number fits its place.
-pub record AreCounters (bytes : List ℕ) (sequence chain base next_id next_store objects allocs : ℕ) : Type 0 where
+pub record AreCounters (bytes : List ℕ)
+    (sequence chain base next_id next_store objects allocs : ℕ) : Type 0 where
   pub sequence_fits : sequence < 2 ^ 64
   pub chain_fits : chain < 2 ^ 64
   pub base_fits : base < 2 ^ 64
@@ -159,11 +172,16 @@ pub record AreCounters (bytes : List ℕ) (sequence chain base next_id next_stor
 -- These bytes follow the version in a superblock of these fields, each of which fits its place.
 pub record IsAfterVersion (bytes : List ℕ) (f : Fields) : Type 0 where
   pub sizes_are : AreSizes (take SIZE_BYTES bytes) f.blocks f.generation f.ring
-  pub counters_are : AreCounters (take COUNTER_BYTES (drop SIZE_BYTES bytes)) f.sequence f.chain f.base f.next_id f.next_store (length f.objects) (length f.allocs)
-  pub objects_are : IsListed (take LAYER_BYTES (drop (SIZE_BYTES + COUNTER_BYTES) bytes)) (length f.objects) f.objects
-  pub allocs_are : IsListed (take LAYER_BYTES (drop (SIZE_BYTES + COUNTER_BYTES + LAYER_BYTES) bytes)) (length f.allocs) f.allocs
+  pub counters_are : AreCounters (take COUNTER_BYTES (drop SIZE_BYTES bytes))
+      f.sequence f.chain f.base f.next_id f.next_store (length f.objects) (length f.allocs)
+  pub objects_are : HoldsLayers (take LAYER_BYTES (drop (SIZE_BYTES + COUNTER_BYTES) bytes))
+      (length f.objects) f.objects
+  pub allocs_are : HoldsLayers
+      (take LAYER_BYTES (drop (SIZE_BYTES + COUNTER_BYTES + LAYER_BYTES) bytes))
+      (length f.allocs) f.allocs
   pub floor_fits : f.floor < 2 ^ 64
-  pub tail_is : drop (SIZE_BYTES + COUNTER_BYTES + 2 * LAYER_BYTES) bytes ≡ little_bytes 8 f.floor ++ padding
+  pub tail_is : drop (SIZE_BYTES + COUNTER_BYTES + 2 * LAYER_BYTES) bytes
+      ≡ little_bytes 8 f.floor ++ super_padding
 
 -- What is said of a block.
 abbrev pub Decoded : List ℕ → Result Super SuperFault → Type 0

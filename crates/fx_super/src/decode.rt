@@ -6,6 +6,7 @@ use crate::layers::LAYER_BYTES;
 use crate::superblock::{AFTER_VERSION, COUNTER_BYTES, MAGIC, SIZE_BYTES, SUM_AT, VERSION_AT};
 use crate::{LayerList, Super, VERSION};
 use byteorder::{ByteOrder, LittleEndian};
+use fx_base::{BLOCK_BYTES, is_zero};
 use fx_sum::fletch;
 use thiserror::Error;
 
@@ -23,7 +24,7 @@ pub enum SuperFault {
 /// What the block says, if it is a superblock: `Version` exactly where the magic and the sum are right
 /// and the version is another one, and `Bad` exactly where it is neither. The sum takes one pass over
 /// the block, the fields another, and no memory is taken.
-pub fn decode_super(block: &[u8; 4096]) -> Result<Super, SuperFault>
+pub fn decode_super(block: &[u8; BLOCK_BYTES]) -> Result<Super, SuperFault>
     ensures decoded { Decoded block.now result }
     // A superblock is read as what it says.
     ensures found { (f : Fields) → IsSuper block.now f → IsOkAnd result (λ s. fields_of s ≡ f) }
@@ -33,7 +34,8 @@ pub fn decode_super(block: &[u8; 4096]) -> Result<Super, SuperFault>
     judge(block)
 }
 
-fn judge(block: &[u8; 4096]) -> Result<Super, SuperFault>
+/// What the block says, by its sum, its magic, its version and its fields.
+fn judge(block: &[u8; BLOCK_BYTES]) -> Result<Super, SuperFault>
     ensures { Decoded block.now result }
 {
     let (body, sum) = block.split_at(SUM_AT);
@@ -98,9 +100,11 @@ struct Sizes {
     ring: u32,
 }
 
+/// The sizes that stand here.
 fn sizes_at(bytes: &[u8]) -> Option<Sizes>
     requires { length bytes.now ≡ SIZE_BYTES }
-    ensures { MatchOption result ((blocks generation ring : ℕ) → AreSizes bytes.now blocks generation ring → ⊥)
+    ensures { MatchOption result ((blocks generation ring : ℕ)
+        → AreSizes bytes.now blocks generation ring → ⊥)
         (λ s. AreSizes bytes.now s.blocks s.generation s.ring) }
 {
     let (blocks, rest) = take_u32(bytes);
@@ -129,10 +133,12 @@ struct Counters {
     allocs: u32,
 }
 
+/// The counters that stand here.
 fn counters_at(bytes: &[u8]) -> Option<Counters>
     requires { length bytes.now ≡ COUNTER_BYTES }
     ensures { MatchOption result ((s c b i t o a : ℕ) → AreCounters bytes.now s c b i t o a → ⊥)
-        (λ n. AreCounters bytes.now n.sequence n.chain n.base n.next_id n.next_store n.objects n.allocs) }
+        (λ n. AreCounters bytes.now n.sequence n.chain n.base n.next_id n.next_store n.objects
+        n.allocs) }
 {
     let (sequence, rest) = take_u64(bytes);
     let (chain, rest) = take_u64(rest);
@@ -174,11 +180,4 @@ fn take_u64(bytes: &[u8]) -> (u64, &[u8])
 {
     let (number, rest) = bytes.split_at(8);
     (LittleEndian::read_u64(number), rest)
-}
-
-/// Whether all bytes are zero.
-fn is_zero(bytes: &[u8]) -> bool
-    ensures { IsTrue result ↔ (bytes.now ≡ replicate (length bytes.now) 0) }
-{
-    bytes.iter().all(|byte| *byte == 0)
 }

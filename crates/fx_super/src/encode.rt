@@ -1,5 +1,5 @@
 ghost use Rattle.std.specs.Prelude.{◌≡◌, ◌-◌, length};
-ghost use Rattle.fx_super.specs.Super.{KeepsRules, IsSuper, fields_of, super_block, super_body, after_version, sizes, counters, padding};
+ghost use Rattle.fx_super.specs.Super.{KeepsRules, IsSuper, fields_of, super_block, super_body, after_version, sizes, counters, super_padding};
 
 use crate::Super;
 use crate::layers::LAYER_BYTES;
@@ -7,11 +7,12 @@ use crate::superblock::{
     AFTER_VERSION, COUNTER_BYTES, MAGIC, PADDING, SIZE_BYTES, SUM_AT, VERSION_AT,
 };
 use byteorder::{ByteOrder, LittleEndian};
+use fx_base::BLOCK_BYTES;
 use fx_sum::fletch;
 
 /// Writes the superblock of these fields. One pass over the block, and no memory.
 #[tactic(auto, unfolding(crate::specs::Super::super_block))]
-pub fn encode_super(s: &Super, into: &mut [u8; 4096])
+pub fn encode_super(s: &Super, into: &mut [u8; BLOCK_BYTES])
     ensures bytes { into.new ≡ super_block (fields_of s.now) }
     // Where the fields keep the rules it is a superblock.
     ensures form { KeepsRules (fields_of s.now) → IsSuper into.new (fields_of s.now) }
@@ -34,6 +35,7 @@ fn write_body(s: &Super, into: &mut [u8])
     write_after_version(s, rest);
 }
 
+/// Writes what follows the version.
 #[tactic(auto, unfolding(crate::specs::Super::after_version))]
 fn write_after_version(s: &Super, into: &mut [u8])
     requires { length into.old ≡ SUM_AT - AFTER_VERSION }
@@ -52,13 +54,15 @@ fn write_after_version(s: &Super, into: &mut [u8])
     fill_zeros(zeros);
 }
 
+/// Writes the zeros after the floor.
 fn fill_zeros(into: &mut [u8])
     requires { length into.old ≡ PADDING }
-    ensures { into.new ≡ padding }
+    ensures { into.new ≡ super_padding }
 {
     into.fill(0);
 }
 
+/// Writes the sizes.
 #[tactic(auto, unfolding(crate::specs::Super::sizes))]
 fn write_sizes(s: &Super, into: &mut [u8])
     requires { length into.old ≡ SIZE_BYTES }
@@ -70,10 +74,12 @@ fn write_sizes(s: &Super, into: &mut [u8])
     LittleEndian::write_u32(&mut into[16..], 0);
 }
 
+/// Writes the counters.
 #[tactic(auto, unfolding(crate::specs::Super::counters))]
 fn write_counters(s: &Super, into: &mut [u8])
     requires { length into.old ≡ COUNTER_BYTES }
-    ensures { into.new ≡ counters s.now.sequence s.now.chain s.now.base s.now.next_id s.now.next_store (length s.now.objects) (length s.now.allocs) }
+    ensures { into.new ≡ counters s.now.sequence s.now.chain s.now.base s.now.next_id
+        s.now.next_store (length s.now.objects) (length s.now.allocs) }
 {
     LittleEndian::write_u64(into, s.sequence);
     LittleEndian::write_u64(&mut into[8..], s.chain);

@@ -1,5 +1,5 @@
 ghost use Rattle.std.specs.Prelude.{◌≡◌, ◌≤◌, ◌<◌, ◌*◌, ◌+◌, ◌↔◌, ◌++◌, ◌∷◌, [], ℕ, List, IsTrue, MatchOption, length, replicate};
-ghost use Rattle.fx_super.specs.Layers.{layer_bytes, IsListed};
+ghost use Rattle.fx_super.specs.Layers.{layer_bytes, HoldsLayers};
 
 use byteorder::{ByteOrder, LittleEndian};
 use std::marker::Model;
@@ -19,7 +19,7 @@ pub struct LayerList {
 
 impl Model for LayerList {
     ghost use Rattle.std.specs.Prelude.{ℕ, List, take, length};
-    ghost use Rattle.fx_super.specs.Layers.{padded, IsPadded, length-used, padded-used};
+    ghost use Rattle.fx_super.specs.Layers.{padded_layers, IsPadded, length-used, padded-used};
 
     ghost Value = { List ℕ };
 
@@ -27,7 +27,7 @@ impl Model for LayerList {
 
     ghost invariant = { λ l. IsPadded l.firsts l.count };
 
-    ghost inverse = { λ list. record { count = length list; firsts = padded list } };
+    ghost inverse = { λ list. record { count = length list; firsts = padded_layers list } };
 
     ghost inverse_ok = { λ l h i. record {
       count = length-used l.firsts l.count h i;
@@ -102,7 +102,8 @@ impl LayerList {
     /// The list of `count` layers that stands here, with zeros in the places that are not used.
     pub(crate) fn read(bytes: &[u8], count: u32) -> Option<LayerList>
         requires { length bytes.now ≡ LAYER_BYTES }
-        ensures { MatchOption result ((list : List ℕ) → IsListed bytes.now count list → ⊥) (λ list. IsListed bytes.now count list) }
+        ensures { MatchOption result ((list : List ℕ) → HoldsLayers bytes.now count list → ⊥)
+            (λ list. HoldsLayers bytes.now count list) }
     {
         let count = count as usize;
         if LAYERS < count {

@@ -14,8 +14,8 @@ pub use decode::{SuperFault, decode_super};
 pub use encode::encode_super;
 pub use layers::{LAYERS, LayerList};
 pub use superblock::{
-    COUNT_END, MAGIC, MAX_BLOCKS, MAX_GENERATION, MAX_NEXT_STORE, MAX_RING, MIN_RING, RING_AT,
-    RING_SHARE, SPARE_BLOCKS, SUM_AT, Super, VERSION, first_super,
+    COUNT_END, MAGIC, MAX_BLOCKS, MAX_GENERATION, MAX_NEXT_STORE, MAX_RING, MIN_BLOCKS, MIN_RING,
+    RING_AT, RING_SHARE, SPARE_BLOCKS, SUM_AT, Super, VERSION, first_super,
 };
 
 #[cfg(test)]

@@ -42,6 +42,9 @@ pub const RING_SHARE: u32 = 4;
 /// The blocks that a device has at least beyond `RING_SHARE` times the ring's.
 pub const SPARE_BLOCKS: u32 = 64;
 
+/// The fewest blocks of a device: those that the smallest ring wants.
+pub const MIN_BLOCKS: u32 = RING_SHARE * MIN_RING + SPARE_BLOCKS;
+
 /// The ring's first block. The superblocks are blocks 0 and 1.
 pub const RING_AT: u32 = 2;
 
@@ -126,6 +129,7 @@ impl Super {
         self.has_layers(&self.allocs)
     }
 
+    /// Whether the version, the sizes and the generation keep the rules.
     fn has_sizes(&self) -> bool
         ensures { IsTrue result ↔ HasSizes (fields_of self.now) }
     {
@@ -138,6 +142,7 @@ impl Super {
             && self.generation <= MAX_GENERATION
     }
 
+    /// Whether the counters and the floor keep the rules.
     fn has_counters(&self) -> bool
         ensures counters { IsTrue result ↔ HasCounters (fields_of self.now) }
         ensures chain { self.now.chain < 2 ^ 64 }
@@ -154,6 +159,7 @@ impl Super {
             && self.floor <= self.generation
     }
 
+    /// Whether each layer of the list begins after the ring, on the device.
     fn has_layers(&self, list: &LayerList) -> bool
         requires { self.now.ring ≤ MAX_RING }
         ensures layers { IsTrue result ↔ All (IsLayer (fields_of self.now)) list.now }

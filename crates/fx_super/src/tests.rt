@@ -1,5 +1,6 @@
 use super::*;
 use byteorder::{ByteOrder, LittleEndian};
+use fx_base::BLOCK_BYTES;
 use fx_sum::fletch;
 use std::process::Abort;
 
@@ -11,8 +12,8 @@ const HEAD: [u8; 80] = [
 ];
 
 /// Each edit of one byte is refused.
-fn expect_bad(rt: &impl Abort, block: &mut [u8; 4096]) {
-    for at in 0..4096 {
+fn expect_bad(rt: &impl Abort, block: &mut [u8; BLOCK_BYTES]) {
+    for at in 0..BLOCK_BYTES {
         let kept = block[at];
         block[at] = kept ^ 0x5a;
         assert_eq!(rt; decode_super(block), Err(SuperFault::Bad));
@@ -21,15 +22,15 @@ fn expect_bad(rt: &impl Abort, block: &mut [u8; 4096]) {
 }
 
 /// Writes the sum that belongs to the other bytes.
-fn set_sum(block: &mut [u8; 4096]) {
+fn set_sum(block: &mut [u8; BLOCK_BYTES]) {
     let sum = fletch(0, &block[..SUM_AT]);
     LittleEndian::write_u64(&mut block[SUM_AT..], sum);
 }
 
 #[test]
 fn first(rt: HostRuntime) {
-    let new = first_super(2048, 256);
-    let mut block = [0xff; 4096];
+    let new = first_super(2048, MIN_RING);
+    let mut block = [0xff; BLOCK_BYTES];
     encode_super(&new, &mut block);
     for at in 0..80 {
         assert_eq!(rt; block[at], HEAD[at]);
@@ -45,9 +46,9 @@ fn first(rt: HostRuntime) {
 
 #[test]
 fn versions(rt: HostRuntime) {
-    let mut block = [0; 4096];
+    let mut block = [0; BLOCK_BYTES];
     assert_eq!(rt; decode_super(&block), Err(SuperFault::Bad));
-    encode_super(&first_super(1088, 256), &mut block);
+    encode_super(&first_super(MIN_BLOCKS, MIN_RING), &mut block);
     block[8] = 2;
     assert_eq!(rt; decode_super(&block), Err(SuperFault::Bad));
     set_sum(&mut block);
@@ -70,11 +71,11 @@ fn layers(rt: HostRuntime) {
     assert_eq!(rt; list.as_slice(), [300, 299].as_slice());
     assert_eq!(rt; list.count(), 2);
     assert_eq!(rt; list, LayerList::from_slice(&[300, 299]));
-    let mut fields = first_super(2048, 256);
+    let mut fields = first_super(2048, MIN_RING);
     fields.objects = list;
     fields.allocs = LayerList::from_slice(&[2047; LAYERS]);
     assert!(rt; fields.allocs.is_full());
-    let mut block = [0; 4096];
+    let mut block = [0; BLOCK_BYTES];
     encode_super(&fields, &mut block);
     assert_eq!(rt; decode_super(&block), Ok(fields));
     assert_eq!(rt; LittleEndian::read_u32(&block[84..]), 299);

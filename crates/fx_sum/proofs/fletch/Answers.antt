@@ -1,6 +1,6 @@
 use Rattle.std.proofs.Common.{rules, ℕ, ◌/◌, ◌^◌, ap, ◌∙◌, arith}
 use Rattle.std.specs.Prelude.{fold}
-use Rattle.fx_sum.specs.Checksum.{Sums, add_word, value_of, words}
+use Rattle.fx_sum.specs.Checksum.{Sums, add_word, checksum_of, words}
 use Rattle.fx_sum.proofs.Words.{goes_on, is_done, low_half, joined}
 use Rattle.fx_sum.proofs.fletch.Goals as goal
 
@@ -18,4 +18,4 @@ pub returns : goal.returns
 returns c =
     let s : Sums = record { low = c.loop-word.low; high = c.loop-word.high } in
     let whole = is_done s c.loop-word.rest.now _ c.in_default.ensures.cases c.loop-word.invariant in
-    rw (c.from.ensures, c.from-2.ensures) (joined c.loop-word.high c.loop-word.low (search rules) (search rules) ∙ ap value_of whole)
+    rw (c.from.ensures, c.from-2.ensures) (joined c.loop-word.high c.loop-word.low (search rules) (search rules) ∙ ap checksum_of whole)

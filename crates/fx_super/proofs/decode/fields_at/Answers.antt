@@ -1,6 +1,6 @@
 use Rattle.std.proofs.Common.{rules, ◌≡◌, ◌++◌, length, true, refl, sym, ◌∙◌}
 use Rattle.byteorder.specs.Endian.{little_bytes}
-use Rattle.fx_super.specs.Super.{padding}
+use Rattle.fx_super.specs.Super.{super_padding}
 use Rattle.fx_super.proofs.Parts.{counters_of_one}
 use Rattle.fx_super.proofs.Judging.{cut_up, sizes_here, zeros_are_padding, padding_is_zero, listed_here, listed_there, counted_here, counted_there}
 use Rattle.fx_super.proofs.decode.fields_at.Goals as goal
@@ -8,7 +8,7 @@ use Rattle.fx_super.proofs.decode.fields_at.Goals as goal
 pub returns-then-not-is_zero : goal.returns-then-not-is_zero
 returns-then-not-is_zero c = λ f h.
     let p = cut_up c.args.bytes.now c.split_at.result.1.now c.split_at-2.result.1.now c.split_at-3.result.1.now c.split_at.result.0.now c.split_at-2.result.0.now c.split_at-3.result.0.now c.split_at-4.result.0.now c.split_at-4.result.1.now c.split_at.ensures.front c.split_at.ensures.back c.split_at-2.ensures.front c.split_at-2.ensures.back c.split_at-3.ensures.front c.split_at-3.ensures.back c.split_at-4.ensures.front c.split_at-4.ensures.back in
-    let tail : c.split_at-4.result.1.now ≡ little_bytes 8 f.floor ++ padding = p.tail_is ∙ h.tail_is in
+    let tail : c.split_at-4.result.1.now ≡ little_bytes 8 f.floor ++ super_padding = p.tail_is ∙ h.tail_is in
     let yes : c.is_zero.result ≡ true = c.is_zero.ensures.1 (padding_is_zero c.split_at-4.result.1.now c.take_u64-floor.result.1.now c.take_u64-floor.result.0 f (search rules) h.floor_fits (search rules) c.take_u64-floor.ensures.read tail) in
     cc
 

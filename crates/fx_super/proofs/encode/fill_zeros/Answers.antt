@@ -1,9 +1,9 @@
 use Rattle.std.proofs.Common.{rules, ◌≡◌, ℕ, length, replicate, refl, ap, ◌∙◌}
-use Rattle.fx_super.specs.Super.{padding}
+use Rattle.fx_super.specs.Super.{super_padding}
 use Rattle.fx_super.proofs.encode.fill_zeros.Goals as goal
 
-padding_is : replicate 3744 0 ≡ padding
-unfolding padding
+padding_is : replicate 3744 0 ≡ super_padding
+unfolding super_padding
 padding_is = refl
 
 pub returns : goal.returns

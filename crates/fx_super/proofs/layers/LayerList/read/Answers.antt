@@ -1,6 +1,6 @@
 use Rattle.std.proofs.Common.{rules, ◌≡◌, ℕ, ◌-◌, List, length, take, drop, replicate, true, sym, ap, ◌∙◌, arith, length-drop}
 use Rattle.std.proofs.lemmas.List.{take_rest}
-use Rattle.fx_super.proofs.Numbers.{IsBytes}
+use Rattle.fx_base.proofs.Bytes.{IsBytes}
 use Rattle.fx_super.proofs.Lists.{read_spells, read_fits, read_is_listed, listed_unused}
 use Rattle.fx_super.proofs.layers.LayerList.read.Goals as goal
 
