@@ -3,7 +3,7 @@ use Rattle.std.proofs.Common.{◌≡◌, ◌≢◌, ℕ, suc, ◌+◌, ◌-◌, 
 use Rattle.std.specs.Prelude.{sum_by}
 use Rattle.std.proofs.lemmas.List.{take_all, take_more}
 use Rattle.std.proofs.lemmas.List.Sums.{sum_by-cons, sum_by-set}
-use Rattle.fx_pool.specs.Region.{Region, Run, IsSound, IsOut, HasRun, HasFree, Covers, Begins}
+use Rattle.fx_pool.specs.Region.{Region, Run, IsSound, IsOut, RunBegins, HasFree, Covers, Begins}
 use Rattle.fx_journal.specs.Ring.{run_blocks, blocks_out}
 
 none_or : (o : Option ℕ) → ((j : ℕ) → o ≡ Some j → ⊥) → o ≡ None
@@ -20,7 +20,7 @@ sum_take_le (x ∷ xs) zero b h = omega arith
 sum_take_le (x ∷ xs) (suc a) zero h = omega arith
 sum_take_le (x ∷ xs) (suc a) (suc b) h = omega (arith, sum_take_le xs a b (omega arith), sum_by-cons run_blocks x (take a xs), sum_by-cons run_blocks x (take b xs))
 
-sum_take_more : (table : List (Option ℕ)) (s k : ℕ) → HasRun table s k → sum_by run_blocks (take (suc s) table) ≡ sum_by run_blocks (take s table) + 2 ^ k
+sum_take_more : (table : List (Option ℕ)) (s k : ℕ) → RunBegins table s k → sum_by run_blocks (take (suc s) table) ≡ sum_by run_blocks (take s table) + 2 ^ k
 sum_take_more [] s k h = cc
 sum_take_more (x ∷ xs) zero k h = sum_by-cons run_blocks x [] ∙ omega (arith, ap run_blocks h)
 sum_take_more (x ∷ xs) (suc s) k h = omega (arith, sum_take_more xs s k h, sum_by-cons run_blocks x (take (suc s) xs), sum_by-cons run_blocks x (take s xs))

@@ -5,7 +5,7 @@ use Rattle.std.proofs.lemmas.List.{length-take, length-drop, length-append, take
 use Rattle.std.proofs.lemmas.Slice.{between_is, between-put_mid, take-put_mid_below, drop-put_mid}
 use Rattle.std.specs.List.{slice_range}
 use Rattle.fx_pool.specs.Region.{Region, Run, IsSound, IsOut, HasFree, Covers, Begins, bytes_of}
-use Rattle.fx_pool.specs.Lending.{written, with_bytes}
+use Rattle.fx_pool.specs.Lending.{written_over, with_bytes}
 use Rattle.fx_pool.proofs.Pools.{bytes-within}
 
 -- two buffers that begin at different blocks have no block in common
@@ -31,34 +31,34 @@ HasFree-where p b h lt none =
       | inr o ↦ absurd (none (record { start = w.start; order = w.order }) o w.low w.high)
     ]
 
--- bytes with ws written over them, where there is room for ws
+-- bytes with ws written_over over them, where there is room for ws
 length-laid : (bytes : List ℕ) (a : ℕ) (ws : List ℕ) → a + length ws ≤ length bytes → length (take a bytes ++ (ws ++ drop (length ws) (drop a bytes))) ≡ length bytes
 length-laid bytes a ws le = simp (length-append, length-take, length-drop) (omega arith)
 
-written-within : (bytes : List ℕ) (a : ℕ) (ws : List ℕ) → a + length ws ≤ length bytes → written bytes a ws ≡ take a bytes ++ (ws ++ drop (length ws) (drop a bytes))
+written-within : (bytes : List ℕ) (a : ℕ) (ws : List ℕ) → a + length ws ≤ length bytes → written_over bytes a ws ≡ take a bytes ++ (ws ++ drop (length ws) (drop a bytes))
 written-within bytes a ws le = take_all (length bytes) (take a bytes ++ (ws ++ drop (length ws) (drop a bytes))) (omega (arith, length-laid bytes a ws le))
 
-pub length-written : (bytes : List ℕ) (a : ℕ) (ws : List ℕ) → length (written bytes a ws) ≡ length bytes
+pub length-written : (bytes : List ℕ) (a : ℕ) (ws : List ℕ) → length (written_over bytes a ws) ≡ length bytes
 length-written bytes a ws = simp (length-take, length-append, length-drop) (omega arith)
 
-range-written : (bytes : List ℕ) (a e : ℕ) (ws : List ℕ) → e ≤ length bytes → a ≤ e → length ws ≡ e - a → slice_range (written bytes a ws) a e ≡ ws
+range-written : (bytes : List ℕ) (a e : ℕ) (ws : List ℕ) → e ≤ length bytes → a ≤ e → length ws ≡ e - a → slice_range (written_over bytes a ws) a e ≡ ws
 range-written bytes a e ws le lt len =
     ap (λ (l : List ℕ). slice_range l a e) (written-within bytes a ws (omega arith))
     ∙ between-put_mid a (length ws) bytes ws e (omega arith) len
 
-range-below : (bytes : List ℕ) (a b e : ℕ) (ws : List ℕ) → a + length ws ≤ length bytes → e ≤ a → slice_range (written bytes a ws) b e ≡ slice_range bytes b e
+range-below : (bytes : List ℕ) (a b e : ℕ) (ws : List ℕ) → a + length ws ≤ length bytes → e ≤ a → slice_range (written_over bytes a ws) b e ≡ slice_range bytes b e
 range-below bytes a b e ws le lt =
     ap (λ (l : List ℕ). slice_range l b e) (written-within bytes a ws le)
     ∙ between_is (take a bytes ++ (ws ++ drop (length ws) (drop a bytes))) b e
     ∙ ap (λ (l : List ℕ). drop b l) (take-put_mid_below a (length ws) bytes ws e lt (omega arith))
     ∙ sym (between_is bytes b e)
 
-range-above : (bytes : List ℕ) (a b e : ℕ) (ws : List ℕ) → a + length ws ≤ length bytes → a + length ws ≤ b → slice_range (written bytes a ws) b e ≡ slice_range bytes b e
+range-above : (bytes : List ℕ) (a b e : ℕ) (ws : List ℕ) → a + length ws ≤ length bytes → a + length ws ≤ b → slice_range (written_over bytes a ws) b e ≡ slice_range bytes b e
 range-above bytes a b e ws le ge =
     ap (λ (l : List ℕ). slice_range l b e) (written-within bytes a ws le)
     ∙ ap (λ (l : List ℕ). take (e - b) l) (drop-put_mid a (length ws) bytes ws b ge (omega arith) refl)
 
--- what is written to a buffer is what it holds
+-- what is written_over to a buffer is what it holds
 pub bytes-written : (p : Region) (r : Run) (ws : List ℕ) → IsSound p → IsOut p r → length ws ≡ 4096 * 2 ^ r.order → bytes_of (with_bytes p r ws) r ≡ ws
 bytes-written p r ws h a len =
     let w : 4096 * (r.start + 2 ^ r.order) ≤ length p.bytes = bytes-within p.order p.free p.out p.bytes h r.start r.order a in

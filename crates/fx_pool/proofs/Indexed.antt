@@ -4,7 +4,7 @@ use Rattle.std.proofs.lemmas.Bool.{cases_eq, cases_lt, eq-eqb, ne_eqb}
 use Rattle.std.proofs.lemmas.List.{get_or_push, get_or_append_left}
 use Rattle.std.proofs.lemmas.List.Sums.{sum_by-set}
 use Rattle.std.specs.List.{count_by}
-use Rattle.fx_pool.specs.Region.{HasRun, is_order}
+use Rattle.fx_pool.specs.Region.{RunBegins, is_order}
 use Rattle.fx_pool.specs.Indexed.{IsIndexed}
 use Rattle.fx_pool.proofs.Tables.{none_some, HasRun-below, HasRun-once, set-at, set-other, at-set, at-clear}
 
@@ -17,14 +17,14 @@ count-set orders s j v h = sum_by-set (λ x. weight (is_order j x)) orders s v N
 
 module _ (orders : List (Option ℕ)) (places : List ℕ) (old new : ℕ → List ℕ) (s k : ℕ) (h : IsIndexed orders places old) (same : (j : ℕ) → j ≢ k → new j ≡ old j) where
   module _ (below : s < length orders) (fits : length places ≡ length orders) (none : get_or orders s None ≡ None) (more : new k ≡ old k ++ s ∷ []) where
-    added_other : (t j : ℕ) → HasRun orders t j → t ≢ s
-    added_other t j x e = none_some j (get_or orders s None) none (subst (λ (w : ℕ). HasRun orders w j) e x)
+    added_other : (t j : ℕ) → RunBegins orders t j → t ≢ s
+    added_other t j x e = none_some j (get_or orders s None) none (subst (λ (w : ℕ). RunBegins orders w j) e x)
 
-    added_free : (i : ℕ) → i < length (old k ++ s ∷ []) → HasRun (set orders s (Some k)) (get_or (old k ++ s ∷ []) i 0) k
+    added_free : (i : ℕ) → i < length (old k ++ s ∷ []) → RunBegins (set orders s (Some k)) (get_or (old k ++ s ∷ []) i 0) k
     added_free i lt = elim (cases_lt i (length (old k))) [
-      | inl b ↦ subst (λ (w : ℕ). HasRun (set orders s (Some k)) w k) (sym (get_or_append_left (old k) (s ∷ []) 0 i b))
+      | inl b ↦ subst (λ (w : ℕ). RunBegins (set orders s (Some k)) w k) (sym (get_or_append_left (old k) (s ∷ []) 0 i b))
           (set-other orders s (get_or (old k) i 0) k (Some k) (added_other (get_or (old k) i 0) k (h.free k i b)) (h.free k i b))
-      | inr ge ↦ subst (λ (w : ℕ). HasRun (set orders s (Some k)) w k) (sym (get_or_push (old k) s 0 i (omega (arith, length-append (old k) (s ∷ [])))))
+      | inr ge ↦ subst (λ (w : ℕ). RunBegins (set orders s (Some k)) w k) (sym (get_or_push (old k) s 0 i (omega (arith, length-append (old k) (s ∷ [])))))
           (set-at orders s k below)
     ]
 
@@ -44,7 +44,7 @@ module _ (orders : List (Option ℕ)) (places : List ℕ) (old new : ℕ → Lis
       | inr ne ↦ omega (arith, ap (λ (l : List ℕ). length l) (same j ne), h.counted j, count-set orders s j (Some k) below, ap (λ (x : Option ℕ). weight (is_order j x)) none, ap weight (ne_eqb k j (λ q. ne (sym q))))
     ]
 
-    added_found : (t j : ℕ) → HasRun (set orders s (Some k)) t j → (get_or (set places s (length (old k))) t 0 < length (new j)) × (get_or (new j) (get_or (set places s (length (old k))) t 0) 0 ≡ t)
+    added_found : (t j : ℕ) → RunBegins (set orders s (Some k)) t j → (get_or (set places s (length (old k))) t 0 < length (new j)) × (get_or (new j) (get_or (set places s (length (old k))) t 0) 0 ≡ t)
     added_found t j x = elim (at-set orders s t j k below x) [
       | inl e ↦ (let p : get_or (set places s (length (old k))) t 0 ≡ length (old k) = ap (λ (w : ℕ). get_or (set places s (length (old k))) w 0) e.0 ∙ get_or-set_same places s (length (old k)) 0 (omega arith) in
           let l : new j ≡ old k ++ s ∷ [] = ap (λ (w : ℕ). new w) e.1 ∙ more in (
@@ -72,10 +72,10 @@ module _ (orders : List (Option ℕ)) (places : List ℕ) (old new : ℕ → Lis
     pub IsIndexed-added : IsIndexed (set orders s (Some k)) (set places s (length (old k))) new
     IsIndexed-added = record {
       free = λ j i lt. elim (cases_eq j k) [
-        | inl e ↦ subst (λ (x : ℕ). (i : ℕ) → i < length (new x) → HasRun (set orders s (Some k)) (get_or (new x) i 0) x) (sym e)
-            (subst (λ (l : List ℕ). (i : ℕ) → i < length l → HasRun (set orders s (Some k)) (get_or l i 0) k) (sym more) added_free) i lt
+        | inl e ↦ subst (λ (x : ℕ). (i : ℕ) → i < length (new x) → RunBegins (set orders s (Some k)) (get_or (new x) i 0) x) (sym e)
+            (subst (λ (l : List ℕ). (i : ℕ) → i < length l → RunBegins (set orders s (Some k)) (get_or l i 0) k) (sym more) added_free) i lt
         | inr ne ↦ (let b : i < length (old j) = other_list j i ne lt in
-            subst (λ (l : List ℕ). HasRun (set orders s (Some k)) (get_or l i 0) j) (sym (same j ne))
+            subst (λ (l : List ℕ). RunBegins (set orders s (Some k)) (get_or l i 0) j) (sym (same j ne))
             (set-other orders s (get_or (old j) i 0) j (Some k) (added_other (get_or (old j) i 0) j (h.free j i b)) (h.free j i b)))
       ];
       place = λ j i lt. elim (cases_eq j k) [
@@ -90,7 +90,7 @@ module _ (orders : List (Option ℕ)) (places : List ℕ) (old new : ℕ → Lis
       counted = added_counted;
     }
 
-  module _ (run : HasRun orders s k) (fits : length places ≡ length orders) (len : length (new k) + 1 ≡ length (old k))
+  module _ (run : RunBegins orders s k) (fits : length places ≡ length orders) (len : length (new k) + 1 ≡ length (old k))
       (moved : get_or places s 0 + 1 < length (old k) → get_or (new k) (get_or places s 0) 0 ≡ get_or (old k) (length (old k) - 1) 0)
       (kept : (i : ℕ) → i ≢ get_or places s 0 → i + 1 < length (old k) → get_or (new k) i 0 ≡ get_or (old k) i 0) where
     -- the place that is freed, and the run that moves there
@@ -103,7 +103,7 @@ module _ (orders : List (Option ℕ)) (places : List ℕ) (old new : ℕ → Lis
     at_below : at < length (old k)
     at_below = h.within s k run
 
-    last_run : HasRun orders last k
+    last_run : RunBegins orders last k
     last_run = h.free k (length (old k) - 1) (omega (arith, at_below))
 
     last_place : get_or places last 0 ≡ length (old k) - 1
@@ -119,17 +119,17 @@ module _ (orders : List (Option ℕ)) (places : List ℕ) (old new : ℕ → Lis
     apart_last : (i : ℕ) → i + 1 < length (old k) → get_or (old k) i 0 ≢ last
     apart_last i lt e = let p : i ≡ length (old k) - 1 = sym (h.place k i (omega arith)) ∙ ap (λ (w : ℕ). get_or places w 0) e ∙ last_place in omega arith
 
-    other_order : (t j : ℕ) → j ≢ k → HasRun orders t j → (u : ℕ) → HasRun orders u k → t ≢ u
-    other_order t j ne x u y e = ne (HasRun-once orders u j k (subst (λ (w : ℕ). HasRun orders w j) e x) y)
+    other_order : (t j : ℕ) → j ≢ k → RunBegins orders t j → (u : ℕ) → RunBegins orders u k → t ≢ u
+    other_order t j ne x u y e = ne (HasRun-once orders u j k (subst (λ (w : ℕ). RunBegins orders w j) e x) y)
 
-    taken_free : (i : ℕ) → i < length (new k) → HasRun (set orders s None) (get_or (new k) i 0) k
+    taken_free : (i : ℕ) → i < length (new k) → RunBegins (set orders s None) (get_or (new k) i 0) k
     taken_free i lt = elim (cases_eq i at) [
       | inl e ↦ (let more : at + 1 < length (old k) = omega (arith, len) in
           let ns : last ≢ s = apart (length (old k) - 1) (omega (arith, at_below)) (λ q. omega arith) in
-          subst (λ (w : ℕ). HasRun (set orders s None) (get_or (new k) w 0) k) (sym e)
-          (subst (λ (w : ℕ). HasRun (set orders s None) w k) (sym (moved more)) (set-other orders s last k None ns last_run)))
+          subst (λ (w : ℕ). RunBegins (set orders s None) (get_or (new k) w 0) k) (sym e)
+          (subst (λ (w : ℕ). RunBegins (set orders s None) w k) (sym (moved more)) (set-other orders s last k None ns last_run)))
       | inr ne ↦ (let lt' : i < length (old k) = omega (arith, len) in
-          subst (λ (w : ℕ). HasRun (set orders s None) w k) (sym (kept i ne (omega (arith, len))))
+          subst (λ (w : ℕ). RunBegins (set orders s None) w k) (sym (kept i ne (omega (arith, len))))
           (set-other orders s (get_or (old k) i 0) k None (apart i lt' ne) (h.free k i lt')))
     ]
 
@@ -141,7 +141,7 @@ module _ (orders : List (Option ℕ)) (places : List ℕ) (old new : ℕ → Lis
           ap (λ (w : ℕ). get_or (set places last at) w 0) (kept i ne more) ∙ get_or-set_other places last (get_or (old k) i 0) at 0 (apart_last i more) ∙ h.place k i (omega arith))
     ]
 
-    taken_same : (t : ℕ) → t ≢ s → HasRun orders t k → (get_or (set places last at) t 0 < length (new k)) × (get_or (new k) (get_or (set places last at) t 0) 0 ≡ t)
+    taken_same : (t : ℕ) → t ≢ s → RunBegins orders t k → (get_or (set places last at) t 0 < length (new k)) × (get_or (new k) (get_or (set places last at) t 0) 0 ≡ t)
     taken_same t ns x = elim (cases_eq t last) [
       | inl e ↦ (let p : get_or (set places last at) t 0 ≡ at = ap (λ (w : ℕ). get_or (set places last at) w 0) e ∙ get_or-set_same places last at 0 last_below in
           let ne : at ≢ length (old k) - 1 = λ q. ns (e ∙ ap (λ (w : ℕ). get_or (old k) w 0) (sym q) ∙ h.found s k run) in
@@ -156,12 +156,12 @@ module _ (orders : List (Option ℕ)) (places : List ℕ) (old new : ℕ → Lis
           (omega (arith, len), ap (λ (w : ℕ). get_or (new k) w 0) p ∙ kept (get_or places t 0) na more ∙ f))
     ]
 
-    taken_found : (t j : ℕ) → HasRun (set orders s None) t j → (get_or (set places last at) t 0 < length (new j)) × (get_or (new j) (get_or (set places last at) t 0) 0 ≡ t)
+    taken_found : (t j : ℕ) → RunBegins (set orders s None) t j → (get_or (set places last at) t 0 < length (new j)) × (get_or (new j) (get_or (set places last at) t 0) 0 ≡ t)
     taken_found t j x =
         let c = at-clear orders s t j (HasRun-below orders s k run) x in
         elim (cases_eq j k) [
           | inl e ↦ subst (λ (w : ℕ). (get_or (set places last at) t 0 < length (new w)) × (get_or (new w) (get_or (set places last at) t 0) 0 ≡ t)) (sym e)
-              (taken_same t c.0 (subst (λ (w : ℕ). HasRun orders t w) e c.1))
+              (taken_same t c.0 (subst (λ (w : ℕ). RunBegins orders t w) e c.1))
           | inr ne ↦ (let p : get_or (set places last at) t 0 ≡ get_or places t 0 = get_or-set_other places last t at 0 (other_order t j ne c.1 last last_run) in (
             omega (arith, ap (λ (l : List ℕ). length l) (same j ne), h.within t j c.1),
             ap (λ (w : ℕ). get_or (new j) w 0) p ∙ ap (λ (l : List ℕ). get_or l (get_or places t 0) 0) (same j ne) ∙ h.found t j c.1,
@@ -181,9 +181,9 @@ module _ (orders : List (Option ℕ)) (places : List ℕ) (old new : ℕ → Lis
     pub IsIndexed-taken : IsIndexed (set orders s None) (set places last at) new
     IsIndexed-taken = record {
       free = λ j i lt. elim (cases_eq j k) [
-        | inl e ↦ subst (λ (x : ℕ). (i : ℕ) → i < length (new x) → HasRun (set orders s None) (get_or (new x) i 0) x) (sym e) taken_free i lt
+        | inl e ↦ subst (λ (x : ℕ). (i : ℕ) → i < length (new x) → RunBegins (set orders s None) (get_or (new x) i 0) x) (sym e) taken_free i lt
         | inr ne ↦ (let b : i < length (old j) = other_taken j i ne lt in
-            subst (λ (l : List ℕ). HasRun (set orders s None) (get_or l i 0) j) (sym (same j ne))
+            subst (λ (l : List ℕ). RunBegins (set orders s None) (get_or l i 0) j) (sym (same j ne))
             (set-other orders s (get_or (old j) i 0) j None (other_order (get_or (old j) i 0) j ne (h.free j i b) s run) (h.free j i b)))
       ];
       place = λ j i lt. elim (cases_eq j k) [

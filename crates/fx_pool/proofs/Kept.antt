@@ -7,7 +7,7 @@ use Rattle.std.proofs.lemmas.List.Elements.{All-map, All-weaker, All-set, All-ge
 use Rattle.std.proofs.lemmas.List.Sums.{count_by-le-length}
 use Rattle.std.proofs.lemmas.List.Folds.{sum_by-replicate}
 use Rattle.std.specs.List.{count_by, All}
-use Rattle.fx_pool.specs.Region.{HasRun, is_order}
+use Rattle.fx_pool.specs.Region.{RunBegins, is_order}
 use Rattle.fx_pool.specs.Indexed.{IsIndexed, IsKept, starts}
 use Rattle.fx_pool.proofs.Tables.{none_some, HasRun-below}
 use Rattle.fx_pool.proofs.Indexed.{weight, count-set, IsIndexed-added, IsIndexed-taken}
@@ -25,7 +25,7 @@ starts-other : (lists : List (Vec ℕ Global)) (k j : ℕ) (v : Vec ℕ Global) 
 starts-other lists k j v ne = ap (λ (l : List (List ℕ)). get_or l j []) (map-set items_of lists k v) ∙ get_or-set_other (map items_of lists) k j v.items [] ne
 
 -- an order that has no list has no run
-pub order-below : (orders : List (Option ℕ)) (places : List ℕ) (lists : List (Vec ℕ Global)) (s k : ℕ) → IsKept orders places lists → HasRun orders s k → k < 13
+pub order-below : (orders : List (Option ℕ)) (places : List ℕ) (lists : List (Vec ℕ Global)) (s k : ℕ) → IsKept orders places lists → RunBegins orders s k → k < 13
 order-below orders places lists s k h r = elim (cases_lt k 13) [
   | inl lt ↦ lt
   | inr ge ↦ (let e : starts lists k ≡ [] = get_or_past (map items_of lists) k [] (omega (arith, length-map lists items_of, h.lists_len)) in
@@ -57,21 +57,21 @@ IsKept-added orders places lists s k u v h lt b none e more same =
     }
 
 -- where the run stands in its list, which is not empty
-pub place-below : (orders : List (Option ℕ)) (places : List ℕ) (lists : List (Vec ℕ Global)) (s k p : ℕ) (u : Vec ℕ Global) → IsKept orders places lists → HasRun orders s k → p ≡ get_or places s p → u ≡ get_or lists k u → p < vec_len u
+pub place-below : (orders : List (Option ℕ)) (places : List ℕ) (lists : List (Vec ℕ Global)) (s k p : ℕ) (u : Vec ℕ Global) → IsKept orders places lists → RunBegins orders s k → p ≡ get_or places s p → u ≡ get_or lists k u → p < vec_len u
 place-below orders places lists s k p u h r e f =
     let q : p ≡ get_or places s 0 = get_or_read places s p (omega (arith, HasRun-below orders s k r, h.places_len)) e 0 in
     omega (arith, u.ok.0, h.indexed.within s k r, ap (λ (l : List ℕ). length l) (starts-is lists k u (omega (arith, h.lists_len, order-below orders places lists s k h r)) f))
 
 -- the last run of that list
-pub last-below : (orders : List (Option ℕ)) (places : List ℕ) (lists : List (Vec ℕ Global)) (s k p last : ℕ) (u : Vec ℕ Global) → IsKept orders places lists → HasRun orders s k → p ≡ get_or places s p → u ≡ get_or lists k u → last ≡ get_or u.items (vec_len u - 1) last → HasRun orders last k
+pub last-below : (orders : List (Option ℕ)) (places : List ℕ) (lists : List (Vec ℕ Global)) (s k p last : ℕ) (u : Vec ℕ Global) → IsKept orders places lists → RunBegins orders s k → p ≡ get_or places s p → u ≡ get_or lists k u → last ≡ get_or u.items (vec_len u - 1) last → RunBegins orders last k
 last-below orders places lists s k p last u h r e f g =
     let a : p < vec_len u = place-below orders places lists s k p u h r e f in
     let su : starts lists k ≡ u.items = starts-is lists k u (omega (arith, h.lists_len, order-below orders places lists s k h r)) f in
     let len : length (starts lists k) ≡ vec_len u = ap (λ (l : List ℕ). length l) su ∙ sym u.ok.0 in
     let w : last ≡ get_or (starts lists k) (vec_len u - 1) 0 = get_or_read u.items (vec_len u - 1) last (omega (arith, u.ok.0)) g 0 ∙ ap (λ (l : List ℕ). get_or l (vec_len u - 1) 0) (sym su) in
-    subst (λ (x : ℕ). HasRun orders x k) (sym w) (h.indexed.free k (vec_len u - 1) (omega arith))
+    subst (λ (x : ℕ). RunBegins orders x k) (sym w) (h.indexed.free k (vec_len u - 1) (omega arith))
 
-pub IsKept-taken : (orders : List (Option ℕ)) (places : List ℕ) (lists : List (Vec ℕ Global)) (s k p last : ℕ) (u v : Vec ℕ Global) → IsKept orders places lists → HasRun orders s k → p ≡ get_or places s p → u ≡ get_or lists k u → last ≡ get_or u.items (vec_len u - 1) last
+pub IsKept-taken : (orders : List (Option ℕ)) (places : List ℕ) (lists : List (Vec ℕ Global)) (s k p last : ℕ) (u v : Vec ℕ Global) → IsKept orders places lists → RunBegins orders s k → p ≡ get_or places s p → u ≡ get_or lists k u → last ≡ get_or u.items (vec_len u - 1) last
     → ((d : ℕ) → p + 1 < vec_len u → get_or v.items p d ≡ get_or u.items (vec_len u - 1) d)
     → ((i d : ℕ) → i ≢ p → i + 1 < vec_len u → get_or v.items i d ≡ get_or u.items i d)
     → vec_len v + 1 ≡ vec_len u → vec_capacity v ≡ vec_capacity u → IsKept (set orders s None) (set places last p) (set lists k v)
@@ -103,18 +103,18 @@ IsKept-taken orders places lists s k p last u v h r e f g moved kept less same =
     }
 
 -- the starts of an order whose list u is
-pub listed-free : (orders : List (Option ℕ)) (places : List ℕ) (lists : List (Vec ℕ Global)) (k i s : ℕ) (u : Vec ℕ Global) → IsKept orders places lists → k < 13 → u ≡ get_or lists k u → i < vec_len u → s ≡ get_or u.items i s → HasRun orders s k
+pub listed-free : (orders : List (Option ℕ)) (places : List ℕ) (lists : List (Vec ℕ Global)) (k i s : ℕ) (u : Vec ℕ Global) → IsKept orders places lists → k < 13 → u ≡ get_or lists k u → i < vec_len u → s ≡ get_or u.items i s → RunBegins orders s k
 listed-free orders places lists k i s u h lt e b f =
     let su : starts lists k ≡ u.items = starts-is lists k u (omega (arith, h.lists_len)) e in
     let w : s ≡ get_or (starts lists k) i 0 = get_or_read u.items i s (omega (arith, u.ok.0)) f 0 ∙ ap (λ (l : List ℕ). get_or l i 0) (sym su) in
-    subst (λ (x : ℕ). HasRun orders x k) (sym w) (h.indexed.free k i (omega (arith, u.ok.0, ap (λ (l : List ℕ). length l) su)))
+    subst (λ (x : ℕ). RunBegins orders x k) (sym w) (h.indexed.free k i (omega (arith, u.ok.0, ap (λ (l : List ℕ). length l) su)))
 
 -- where the lists from an order up are empty no run has that order or more
 -- an order whose list is empty has no run
-pub none-at : (orders : List (Option ℕ)) (places : List ℕ) (lists : List (Vec ℕ Global)) (s k : ℕ) → IsKept orders places lists → length (starts lists k) ≡ 0 → HasRun orders s k → ⊥
+pub none-at : (orders : List (Option ℕ)) (places : List ℕ) (lists : List (Vec ℕ Global)) (s k : ℕ) → IsKept orders places lists → length (starts lists k) ≡ 0 → RunBegins orders s k → ⊥
 none-at orders places lists s k h empty r = omega (arith, h.indexed.within s k r, empty)
 
-pub none-from : (orders : List (Option ℕ)) (places : List ℕ) (lists : List (Vec ℕ Global)) (order top : ℕ) → IsKept orders places lists → 13 ≤ top → ((j : ℕ) → order ≤ j → j < top → length (starts lists j) ≡ 0) → (s k : ℕ) → order ≤ k → HasRun orders s k → ⊥
+pub none-from : (orders : List (Option ℕ)) (places : List ℕ) (lists : List (Vec ℕ Global)) (order top : ℕ) → IsKept orders places lists → 13 ≤ top → ((j : ℕ) → order ≤ j → j < top → length (starts lists j) ≡ 0) → (s k : ℕ) → order ≤ k → RunBegins orders s k → ⊥
 none-from orders places lists order top h ge empty s k a r =
     none-at orders places lists s k h (empty k a (omega (arith, order-below orders places lists s k h r))) r
 
@@ -140,7 +140,7 @@ pub IsKept-new : (n : ℕ) (orders : List (Option ℕ)) (places : List ℕ) (lis
 IsKept-new n orders places lists small e p l h =
     let len : length orders ≡ n = ap (λ (x : List (Option ℕ)). length x) e ∙ length-replicate n None in
     let empty : (k : ℕ) → starts lists k ≡ [] = λ k. starts-empty lists k (All-weaker (λ (v : Vec ℕ Global). (v.items ≡ []) × (n ≤ vec_capacity v)) (λ (v : Vec ℕ Global). v.items ≡ []) (λ v x. x.0) lists h) in
-    let none : (s k : ℕ) → HasRun orders s k → ⊥ = λ s k r. none_some k (get_or (replicate n None) s None) (get_or-replicate n s None None (omega (arith, HasRun-below orders s k r))) (subst (λ (x : List (Option ℕ)). HasRun x s k) e r) in
+    let none : (s k : ℕ) → RunBegins orders s k → ⊥ = λ s k r. none_some k (get_or (replicate n None) s None) (get_or-replicate n s None None (omega (arith, HasRun-below orders s k r))) (subst (λ (x : List (Option ℕ)). RunBegins x s k) e r) in
     let zero_len : (k : ℕ) → length (starts lists k) ≡ 0 = λ k. ap (λ (x : List ℕ). length x) (empty k) in
     record {
       orders_len = omega arith;

@@ -2,22 +2,22 @@
 use Rattle.std.proofs.Common.{◌≡◌, ℕ, suc, min, ◌+◌, ◌-◌, ◌*◌, ◌^◌, ◌<◌, ◌≤◌, List, Option, Some, None, length, set, get_or, add-one, sym, ◌∙◌, subst, ap, inr, arith, get_or-set_same}
 use Rattle.std.proofs.lemmas.Nat.{pow_pos}
 use Rattle.std.proofs.lemmas.List.{set-set, set-get_or}
-use Rattle.fx_pool.specs.Region.{IsDivided, IsPool, HasRun, IsBuddy, IsMultiple, Region, Run}
+use Rattle.fx_pool.specs.Region.{IsDivided, IsPool, RunBegins, IsBuddy, IsMultiple, Region, Run}
 use Rattle.fx_pool.proofs.Tables.{HasRun-below, set-at}
 use Rattle.fx_pool.proofs.Divided.{IsDivided-halved, IsDivided-joined, IsDivided-back, IsBuddy-min, IsBuddy-unique, joined-begins, upper-none, upper-below, out-order}
 
 -- the buffer that is given, in the table of those that are out
-pub buffer-run : (o : List (Option ℕ)) (s k : ℕ) (p : Region) (r : Run) → o ≡ p.out → s ≡ r.start → k ≡ r.order → HasRun p.out r.start r.order → HasRun o s k
+pub buffer-run : (o : List (Option ℕ)) (s k : ℕ) (p : Region) (r : Run) → o ≡ p.out → s ≡ r.start → k ≡ r.order → RunBegins p.out r.start r.order → RunBegins o s k
 buffer-run o s k p r a b c h =
-    subst (λ (x : List (Option ℕ)). HasRun x s k) (sym a)
-    (subst (λ (x : ℕ). HasRun p.out x k) (sym b)
-    (subst (λ (x : ℕ). HasRun p.out r.start x) (sym c) h))
+    subst (λ (x : List (Option ℕ)). RunBegins x s k) (sym a)
+    (subst (λ (x : ℕ). RunBegins p.out x k) (sym b)
+    (subst (λ (x : ℕ). RunBegins p.out r.start x) (sym c) h))
 
 -- a buffer that is struck out, and put back
-pub struck-back : (o : List (Option ℕ)) (s k : ℕ) → HasRun o s k → set (set o s None) s (Some k) ≡ o
+pub struck-back : (o : List (Option ℕ)) (s k : ℕ) → RunBegins o s k → set (set o s None) s (Some k) ≡ o
 struck-back o s k r = set-set o s None (Some k) ∙ ap (λ (x : Option ℕ). set o s x) (sym r) ∙ set-get_or o s None
 
-pub struck-none : (o : List (Option ℕ)) (s k : ℕ) → HasRun o s k → get_or (set o s None) s None ≡ None
+pub struck-none : (o : List (Option ℕ)) (s k : ℕ) → RunBegins o s k → get_or (set o s None) s None ≡ None
 struck-none o s k r = get_or-set_same o s None None (HasRun-below o s k r)
 
 -- a buffer of order r is halved
@@ -55,7 +55,7 @@ joining n f o b k m u z h = record {
   within = omega (arith, h.tiling.within m (k + 1) (inr (set-at o m (k + 1) u)), pow_pos (k + 1));
 }
 
-pub joining-of : (n : ℕ) (f o : List (Option ℕ)) (s b k m : ℕ) → IsBuddy s b k → IsDivided (2 ^ n) f (set o s (Some k)) → s < length o → get_or o s None ≡ None → HasRun f b k → m ≡ min s b → Joining n f o b k m
+pub joining-of : (n : ℕ) (f o : List (Option ℕ)) (s b k m : ℕ) → IsBuddy s b k → IsDivided (2 ^ n) f (set o s (Some k)) → s < length o → get_or o s None ≡ None → RunBegins f b k → m ≡ min s b → Joining n f o b k m
 joining-of n f o s b k m d h u z r e =
     let q : m ≡ d.start = e ∙ IsBuddy-min s b k d in
     let j = joined-begins (2 ^ n) f o s b k d h u z r in
@@ -64,8 +64,8 @@ joining-of n f o s b k m d h u z r e =
     subst (λ (x : ℕ). Joining n f o b k x) (sym q) (joining n f o b k d.start j.0 j.1 h')
 
 -- a buffer whose buddy is not free is free
-pub back-of : (n : ℕ) (f o : List (Option ℕ)) (s b k : ℕ) → IsBuddy s b k → s < length f → s < length o → get_or o s None ≡ None → IsDivided n f (set o s (Some k)) → (HasRun f b k → ⊥) → IsDivided n (set f s (Some k)) o
-back-of n f o s b k d a u z h alone = IsDivided-back n f o s k a u z h (λ c e x. alone (subst (λ (w : ℕ). HasRun f w k) (sym (IsBuddy-unique s b c k d e)) x))
+pub back-of : (n : ℕ) (f o : List (Option ℕ)) (s b k : ℕ) → IsBuddy s b k → s < length f → s < length o → get_or o s None ≡ None → IsDivided n f (set o s (Some k)) → (RunBegins f b k → ⊥) → IsDivided n (set f s (Some k)) o
+back-of n f o s b k d a u z h alone = IsDivided-back n f o s k a u z h (λ c e x. alone (subst (λ (w : ℕ). RunBegins f w k) (sym (IsBuddy-unique s b c k d e)) x))
 
 -- a pool with other tables of the same lengths
 pub IsPool-next : (n m : ℕ) (f g o q : List (Option ℕ)) (b c : List ℕ) → IsPool n f o b → m ≡ n → length g ≡ length f → length q ≡ length o → length c ≡ length b → IsDivided (2 ^ m) g q → IsPool m g q c

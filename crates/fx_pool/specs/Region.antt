@@ -1,7 +1,8 @@
 -- A region of blocks, cut into runs: some are free, the others are buffers that are out.
 -- A table has an entry for each block: the order of the run that begins there, or nothing.
 use Rattle.std.specs.Prelude.{◌≡◌, ℕ, ◌+◌, ◌*◌, ◌^◌, ◌<◌, ◌≤◌, ◌⊎◌, Bool, false, eqb, List, length, Option, Some, None, slice_index_or, slice_set, slice_range, replicate, count_by}
-use Rattle.fx_pool.specs.declared.pool.TheConstants.{BLOCK_BYTES}
+use Rattle.fx_base.specs.declared.block.TheConstants.{BLOCK_BYTES}
+use Rattle.fx_pool.specs.declared.pool.TheConstants.{MAX_ORDER}
 
 -- where a run begins, and its order: it has 2 ^ order blocks
 pub record Run : Type 0 where
@@ -16,12 +17,12 @@ pub record Region : Type 0 where
   pub bytes : List ℕ
 
 -- in this table a run of order k begins at block s
-abbrev pub HasRun : List (Option ℕ) → ℕ → ℕ → Type 0
-HasRun table s k = slice_index_or table s None ≡ Some k
+abbrev pub RunBegins : List (Option ℕ) → ℕ → ℕ → Type 0
+RunBegins table s k = slice_index_or table s None ≡ Some k
 
 -- a free run or a buffer of order k begins at block s
 abbrev pub Begins : List (Option ℕ) → List (Option ℕ) → ℕ → ℕ → Type 0
-Begins free out s k = HasRun free s k ⊎ HasRun out s k
+Begins free out s k = RunBegins free s k ⊎ RunBegins out s k
 
 abbrev pub IsMultiple : ℕ → ℕ → Type 0
 IsMultiple n m = (q : ℕ) × (n ≡ q * m)
@@ -50,12 +51,12 @@ pub record IsBuddy (s b k : ℕ) : Type 0 where
 -- free runs and buffers tile the blocks, none is both, and no two free runs are buddies
 pub record IsDivided (blocks : ℕ) (free out : List (Option ℕ)) : Type 0 where
   pub tiling : IsTiling blocks (Begins free out)
-  pub exclusive : (s k j : ℕ) → HasRun free s k → HasRun out s j → ⊥
-  pub merged : (s b k : ℕ) → IsBuddy s b k → HasRun free s k → HasRun free b k → ⊥
+  pub exclusive : (s k j : ℕ) → RunBegins free s k → RunBegins out s j → ⊥
+  pub merged : (s b k : ℕ) → IsBuddy s b k → RunBegins free s k → RunBegins free b k → ⊥
 
 -- what every pool keeps: tables with an entry for each block, and bytes for each
 pub record IsPool (order : ℕ) (free out : List (Option ℕ)) (bytes : List ℕ) : Type 0 where
-  pub order_le : order ≤ 12
+  pub order_le : order ≤ MAX_ORDER
   pub free_len : length free ≡ 2 ^ order
   pub out_len : length out ≡ 2 ^ order
   pub bytes_len : length bytes ≡ BLOCK_BYTES * 2 ^ order
@@ -69,20 +70,20 @@ pub record HasFree (p : Region) (k : ℕ) : Type 0 where
   pub start : ℕ
   pub order : ℕ
   pub at_least : k ≤ order
-  pub free : HasRun p.free start order
+  pub free : RunBegins p.free start order
 
 -- a free run in which the run lies, of the lowest order that serves
 pub record LiesFree (p : Region) (r : Run) : Type 0 where
   pub start : ℕ
   pub order : ℕ
-  pub free : HasRun p.free start order
-  pub lowest : (s k : ℕ) → r.order ≤ k → HasRun p.free s k → order ≤ k
+  pub free : RunBegins p.free start order
+  pub lowest : (s k : ℕ) → r.order ≤ k → RunBegins p.free s k → order ≤ k
   pub low : start ≤ r.start
   pub high : r.start + 2 ^ r.order ≤ start + 2 ^ order
 
 -- the run is a buffer that is out
 abbrev pub IsOut : Region → Run → Type 0
-IsOut p r = HasRun p.out r.start r.order
+IsOut p r = RunBegins p.out r.start r.order
 
 -- what the run's blocks hold
 abbrev pub bytes_of : Region → Run → List ℕ

@@ -1,13 +1,15 @@
 //! The free runs of a region, found by their order.
 ghost use Rattle.std.specs.Prelude.{◌≡◌, ℕ, ◌+◌, ◌^◌, ◌<◌, ◌≤◌, ◌≢◌, ◌↔◌, length, Some, None, IsSome, IsNone, IfOk, IfSome, IsTrue, replicate, slice_set, slice_index_or, count_by, All, [], vec_len, vec_capacity};
-ghost use Rattle.fx_pool.specs.Region.{HasRun, is_order};
+ghost use Rattle.fx_pool.specs.Region.{RunBegins, is_order};
 
+use crate::pool::MAX_ORDER;
 use std::alloc::{AllocError, Global};
 use std::marker::Model;
 
-/// How many orders a run may have: 0 to 12.
-const ORDERS: u8 = 13;
+/// How many orders a run may have: 0 to [`MAX_ORDER`].
+pub const ORDERS: u8 = MAX_ORDER + 1;
 
+/// A free run: where it begins, and its order.
 #[derive(Clone, Copy)]
 pub struct FreeRun {
     pub start: u16,
@@ -33,10 +35,11 @@ impl Model for FreeRuns {
     ghost invariant = { λ f. IsKept f.orders.items f.places.items f.lists.items };
 }
 
-// For each order an empty list, with room for so many starts.
+/// For each order an empty list, with room for so many starts.
 fn empty_lists(alloc: Global, room: u16) -> Result<Vec<Vec<u16>>, AllocError>
-    ensures len { IfOk result (λ lists. vec_len lists ≡ 13) }
-    ensures empty { IfOk result (λ lists. All (λ list. (list.items ≡ []) × (room ≤ vec_capacity list)) lists.items) }
+    ensures len { IfOk result (λ lists. vec_len lists ≡ ORDERS) }
+    ensures empty { IfOk result
+        (λ lists. All (λ list. (list.items ≡ []) × (room ≤ vec_capacity list)) lists.items) }
 {
     let mut lists = Vec::new(alloc);
     for order in 0..ORDERS {
@@ -48,7 +51,7 @@ fn empty_lists(alloc: Global, room: u16) -> Result<Vec<Vec<u16>>, AllocError>
 impl FreeRuns {
     /// No free run, in a region of so many blocks.
     pub fn new(alloc: Global, blocks: u16) -> Result<Self, AllocError>
-        requires { blocks ≤ 4096 }
+        requires { blocks ≤ 2 ^ MAX_ORDER }
         ensures { IfOk result (λ f. f ≡ replicate blocks None) }
     {
         Ok(FreeRuns {
@@ -60,7 +63,7 @@ impl FreeRuns {
 
     /// Whether a free run of this order begins at this block.
     pub fn has(&self, start: u16, order: u8) -> bool
-        ensures { IsTrue result ↔ HasRun self.now start order }
+        ensures { IsTrue result ↔ RunBegins self.now start order }
     {
         self.orders.get(usize::from(start)).copied().flatten() == Some(order)
     }
@@ -77,9 +80,12 @@ impl FreeRuns {
 
     /// A free run of the lowest order from `order` up.
     pub fn lowest_from(&self, order: u8) -> Option<FreeRun>
-        ensures none { IsNone result ↔ ((s k : ℕ) → order ≤ k → slice_index_or self.now s None ≢ Some k) }
-        ensures found { IfSome result (λ run. (order ≤ run.order) × (run.order ≤ 12) × HasRun self.now run.start run.order) }
-        ensures lowest { IfSome result (λ run. (s k : ℕ) → order ≤ k → HasRun self.now s k → run.order ≤ k) }
+        ensures none { IsNone result
+            ↔ ((s k : ℕ) → order ≤ k → slice_index_or self.now s None ≢ Some k) }
+        ensures found { IfSome result (λ run. (order ≤ run.order) × (run.order ≤ MAX_ORDER)
+            × RunBegins self.now run.start run.order) }
+        ensures lowest { IfSome result (λ run. (s k : ℕ) → order ≤ k → RunBegins self.now s k
+            → run.order ≤ k) }
     {
         for k in order..ORDERS {
             if let Some(start) = self.lists[usize::from(k)].last() {
@@ -92,8 +98,9 @@ impl FreeRuns {
         None
     }
 
+    /// Adds a free run. None begins there.
     pub fn insert(&mut self, run: FreeRun)
-        requires order { run.order ≤ 12 }
+        requires order { run.order ≤ MAX_ORDER }
         requires start { run.start < length self.old }
         requires none { slice_index_or self.old run.start None ≡ None }
         ensures { self.new ≡ slice_set self.old run.start (Some run.order) }
@@ -105,8 +112,9 @@ impl FreeRuns {
         self.orders[start] = Some(run.order);
     }
 
+    /// Takes a free run away.
     pub fn remove(&mut self, run: FreeRun)
-        requires { HasRun self.old run.start run.order }
+        requires { RunBegins self.old run.start run.order }
         ensures { self.new ≡ slice_set self.old run.start None }
     {
         let start = usize::from(run.start);

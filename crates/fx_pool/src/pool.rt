@@ -4,12 +4,10 @@ ghost use Rattle.std.specs.Borrow.{sem};
 ghost use Rattle.fx_pool.specs.Region.{Run, IsSound, IsOut, HasFree, LiesFree, IsMultiple, IsBuddy, bytes_of, free_of, whole};
 
 use crate::free::{FreeRun, FreeRuns};
+use fx_base::BLOCK_BYTES;
 use std::alloc::{AllocError, Global};
 use std::marker::Model;
 use std::ops::Range;
-
-/// Bytes of a block.
-pub const BLOCK_BYTES: usize = 4096;
 
 /// The greatest order of a region.
 pub const MAX_ORDER: u8 = 12;
@@ -21,14 +19,15 @@ pub struct Buf {
 }
 
 impl Model for Buf {
-    ghost use Rattle.std.specs.Prelude.{◌<◌, ◌≤◌};
+    ghost use Rattle.std.specs.Prelude.{◌^◌, ◌<◌, ◌≤◌};
     ghost use Rattle.fx_pool.specs.Region.{Run};
+    ghost use Rattle.fx_pool.specs.declared.pool.TheConstants.{MAX_ORDER};
 
     ghost Value = { Run };
 
     ghost view = { λ b. record { start = b.start; order = b.order } };
 
-    ghost invariant = { λ b. (b.start < 4096) × (b.order ≤ 12) };
+    ghost invariant = { λ b. (b.start < 2 ^ MAX_ORDER) × (b.order ≤ MAX_ORDER) };
 }
 
 /// A region of blocks, each of which is free or in a buffer that is out.
@@ -45,23 +44,28 @@ impl Model for Pool {
 
     ghost Value = { Region };
 
-    ghost view = { λ p. record { order = p.order; free = p.free; out = p.out.items; bytes = p.bytes.items } };
+    ghost view = { λ p. record {
+      order = p.order;
+      free = p.free;
+      out = p.out.items;
+      bytes = p.bytes.items;
+    } };
 
     ghost invariant = { λ p. IsPool p.order p.free p.out.items p.bytes.items };
 }
 
-// How many blocks a run of this order has.
+/// How many blocks a run of this order has.
 fn blocks(order: u8) -> u16
-    requires { order ≤ 12 }
+    requires { order ≤ MAX_ORDER }
     ensures { result ≡ 2 ^ order }
 {
     1 << order
 }
 
-// Where the other half of the run of the next order begins.
+/// Where the other half of the run of the next order begins.
 fn buddy_of(start: u16, order: u8) -> u16
-    requires start { start < 4096 }
-    requires order { order ≤ 12 }
+    requires start { start < 2 ^ MAX_ORDER }
+    requires order { order ≤ MAX_ORDER }
     requires aligned { IsMultiple start (2 ^ order) }
     ensures { IsBuddy start result order }
 {
@@ -74,7 +78,7 @@ fn buddy_of(start: u16, order: u8) -> u16
 }
 
 impl Buf {
-    // Where the bytes of the buffer begin and end in the region.
+    /// Where the bytes of the buffer begin and end in the region.
     fn range(&self) -> Range<usize>
         ensures start { result.start ≡ BLOCK_BYTES * self.now.start }
         ensures end { result.end ≡ BLOCK_BYTES * (self.now.start + 2 ^ self.now.order) }
@@ -106,10 +110,9 @@ impl Pool {
         })
     }
 
-    /// Takes a buffer of `2^order` blocks, which begins at a multiple of its length, out of a free run of the
-    /// lowest order that serves; `None` exactly where no free run has that order or more. The bytes are as
-    /// they were left. Takes no memory; costs the number of
-    /// orders.
+    /// Takes a buffer of `2^order` blocks, which begins at a multiple of its length, out of a free run
+    /// of the lowest order that serves; `None` exactly where no free run has that order or more. The
+    /// bytes are as they were left. Takes no memory; costs the number of orders.
     pub fn take(&mut self, order: u8) -> Option<Buf>
         ensures none { IsNone result ↔ (HasFree self.old order → ⊥) }
         ensures order { IfSome result (λ buf. buf.order ≡ order) }
@@ -117,9 +120,11 @@ impl Pool {
 
         // It is out from now on, apart from those that were out and still are.
         ensures is_out { IfSome result (IsOut self.new) }
-        ensures apart { IfSome result (λ buf. (run : Run) → IsOut self.old run → run.start ≢ buf.start) }
+        ensures apart { IfSome result (λ buf. (run : Run) → IsOut self.old run
+            → run.start ≢ buf.start) }
         ensures still_out { (run : Run) → IsOut self.old run → IsOut self.new run }
-        ensures out { IfSome result (λ buf. self.new.out ≡ slice_set self.old.out buf.start (Some order)) }
+        ensures out { IfSome result (λ buf. self.new.out
+            ≡ slice_set self.old.out buf.start (Some order)) }
         ensures region { self.new.order ≡ self.old.order }
         ensures bytes { self.new.bytes ≡ self.old.bytes }
         ensures unchanged { IsNone result → self.new ≡ self.old }
@@ -149,7 +154,8 @@ impl Pool {
     /// memory; costs the number of orders.
     pub fn give(&mut self, buf: Buf)
         requires { IsOut self.old buf }
-        ensures still_out { (run : Run) → run.start ≢ buf.start → IsOut self.old run → IsOut self.new run }
+        ensures still_out { (run : Run) → run.start ≢ buf.start → IsOut self.old run
+            → IsOut self.new run }
         ensures out { self.new.out ≡ slice_set self.old.out buf.start None }
         ensures region { self.new.order ≡ self.old.order }
         ensures bytes { self.new.bytes ≡ self.old.bytes }
@@ -193,7 +199,7 @@ impl Pool {
         self.bytes.slice_mut(buf.range())
     }
 
-    /// How many free runs have this order.
+    //// How many free runs have this order.
     pub fn free_of(&self, order: u8) -> u32
         ensures { result ≡ free_of self.now order }
     {

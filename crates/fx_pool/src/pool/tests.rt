@@ -38,7 +38,8 @@ fn fill(pool: &mut Pool, buf: &Buf, byte: u8)
     requires sound { IsSound pool.old }
     ensures still_out { (run : Run) → IsOut pool.old run → IsOut pool.new run }
     ensures filled { bytes_of pool.new buf.now ≡ replicate (BLOCK_BYTES * 2 ^ buf.now.order) byte }
-    ensures others { (run : Run) → IsOut pool.old run → run.start ≢ buf.now.start → bytes_of pool.new run ≡ bytes_of pool.old run }
+    ensures others { (run : Run) → IsOut pool.old run → run.start ≢ buf.now.start
+        → bytes_of pool.new run ≡ bytes_of pool.old run }
     ensures sound { IsSound pool.new }
 {
     pool.bytes_mut(buf).fill(byte);

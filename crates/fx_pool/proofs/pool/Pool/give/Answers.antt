@@ -1,6 +1,6 @@
 use Rattle.std.proofs.Common.{◌≡◌, ◌∙◌, ◌<◌, ◌+◌, ◌^◌, ℕ, List, Option, Vec, Global, None, Some, get_or, set, length, length-set, ap, sym, refl, subst, arith}
 use Rattle.std.proofs.lemmas.Bool.{false≢true}
-use Rattle.fx_pool.specs.Region.{HasRun, Region, Run, IsDivided}
+use Rattle.fx_pool.specs.Region.{RunBegins, Region, Run, IsDivided}
 use Rattle.fx_pool.proofs.Tables.{HasRun-below, set-other}
 use Rattle.fx_pool.proofs.Pools.{few-blocks}
 use Rattle.fx_pool.proofs.Divided.{out-none, out-order}
@@ -9,7 +9,7 @@ use Rattle.fx_pool.proofs.pool.Pool.give.Goals as goal
 
 pub loop-self-init : goal.loop-self-init
 loop-self-init c =
-    let run : HasRun c.self.inside.out.items c.buf.inside.start c.buf.inside.order = buffer-run c.self.inside.out.items c.buf.inside.start c.buf.inside.order c.args.self.now c.args.buf (ap (λ (p : Region). p.out) c.self.view_is) (ap (λ (r : Run). r.start) c.buf.view_is) (ap (λ (r : Run). r.order) c.buf.view_is) c.requires in
+    let run : RunBegins c.self.inside.out.items c.buf.inside.start c.buf.inside.order = buffer-run c.self.inside.out.items c.buf.inside.start c.buf.inside.order c.args.self.now c.args.buf (ap (λ (p : Region). p.out) c.self.view_is) (ap (λ (r : Run). r.start) c.buf.view_is) (ap (λ (r : Run). r.order) c.buf.view_is) c.requires in
     record {
       order_same = refl;
       out_same = refl;
@@ -78,7 +78,7 @@ returns-clause-sound c = invariant_of-self c
 
 pub returns-clause-still_out : goal.returns-clause-still_out
 returns-clause-still_out c run ne out =
-    let was : HasRun c.self.inside.out.items run.start run.order = subst (λ (p : Region). HasRun p.out run.start run.order) (sym c.self.view_is) out in
+    let was : RunBegins c.self.inside.out.items run.start run.order = subst (λ (p : Region). RunBegins p.out run.start run.order) (sym c.self.view_is) out in
     let same : c.loop-self.self-inside.out.items ≡ set c.self.inside.out.items c.from.result None = ap (λ (v : Vec (Option ℕ) Global). v.items) c.loop-self.invariant.out_same in
-    subst (λ (o : List (Option ℕ)). HasRun o run.start run.order) (sym same)
+    subst (λ (o : List (Option ℕ)). RunBegins o run.start run.order) (sym same)
     (set-other c.self.inside.out.items c.from.result run.start run.order None (λ e. ne (e ∙ c.from.ensures ∙ ap (λ (r : Run). r.start) c.buf.view_is)) was)
