@@ -11,23 +11,31 @@ tree_after tree entry = result_unwrap_or (do_all tree entry.steps) tree
 
 -- the tree after the entries with numbers up to this one
 abbrev pub tree_at : Tree → List Entry → ℕ → Tree
-tree_at tree history number = fold tree_after tree (filter (λ entry. nat_le entry.number number) history)
+tree_at tree history number =
+    fold tree_after tree (filter (λ entry. nat_le entry.number number) history)
 
 -- The history can have been made on this tree after `base` commits.
 pub record Legal (tree : Tree) (base : ℕ) (history : List Entry) : Type 0 where
   -- the numbers follow each other from base + 1 on
-  pub numbered : (i : ℕ) (entry : Entry) → slice_get history i ≡ Some entry → entry.number ≡ base + i + 1
+  pub numbered : (i : ℕ) (entry : Entry) → slice_get history i ≡ Some entry
+      → entry.number ≡ base + i + 1
   -- each entry's steps are all done on the tree before it
-  pub done : (i : ℕ) (entry : Entry) → slice_get history i ≡ Some entry → IsOk (do_all (tree_at tree history (base + i)) entry.steps)
+  pub done : (i : ℕ) (entry : Entry) → slice_get history i ≡ Some entry
+      → IsOk (do_all (tree_at tree history (base + i)) entry.steps)
   -- upkeep has no steps
-  pub upkeep : (i : ℕ) (entry : Entry) → slice_get history i ≡ Some entry → entry.who ≡ 0 → entry.steps ≡ []
+  pub upkeep : (i : ℕ) (entry : Entry) → slice_get history i ≡ Some entry → entry.who ≡ 0
+      → entry.steps ≡ []
   -- entries settle in their order
-  pub settles : (i j : ℕ) (earlier later : Entry) → i < j → slice_get history i ≡ Some earlier → slice_get history j ≡ Some later → 0 < later.settled → (0 < earlier.settled) × (earlier.settled ≤ later.settled)
+  pub settles : (i j : ℕ) (earlier later : Entry) → i < j → slice_get history i ≡ Some earlier
+      → slice_get history j ≡ Some later → 0 < later.settled
+      → (0 < earlier.settled) × (earlier.settled ≤ later.settled)
 
 -- The first so many entries are settled, and the others are not.
 pub record SettledFirst (count : ℕ) (history : List Entry) : Type 0 where
-  pub before : (i : ℕ) (entry : Entry) → slice_get history i ≡ Some entry → i < count → 0 < entry.settled
-  pub after : (i : ℕ) (entry : Entry) → slice_get history i ≡ Some entry → count ≤ i → entry.settled ≡ 0
+  pub before : (i : ℕ) (entry : Entry) → slice_get history i ≡ Some entry → i < count
+      → 0 < entry.settled
+  pub after : (i : ℕ) (entry : Entry) → slice_get history i ≡ Some entry → count ≤ i
+      → entry.settled ≡ 0
 
 -- when an entry was settled: as before, or now where it was not
 abbrev pub settled_by : ℕ → ℕ → ℕ

@@ -18,23 +18,23 @@ abbrev pub steps_of : Line → List Step
 steps_of (Single step) = step ∷ []
 steps_of Sync = []
 
+-- ---- what the kinds of end say: `IsAnswered` says for each of them what it means for the history
+-- and for the tree at its point, and the definitions that pick some kinds out name these alone
+
+-- the line is a commit of the history
 abbrev pub is_committed : EndKind → Bool
 is_committed Committed = true
-is_committed (Seen answer) = false
-is_committed (Refused index refusal) = false
-is_committed (Full full) = false
-is_committed (Synced calls) = false
-is_committed (DeviceFault count) = false
-is_committed OutOfMemory = false
+is_committed other = false
 
+-- the line tells that a sync was done
+abbrev pub is_synced : EndKind → Bool
+is_synced (Synced calls) = true
+is_synced other = false
+
+-- the line tells a fault of the disk
 abbrev pub is_fault : EndKind → Bool
-is_fault Committed = false
-is_fault (Seen answer) = false
-is_fault (Refused index refusal) = false
-is_fault (Full full) = false
-is_fault (Synced calls) = false
 is_fault (DeviceFault count) = true
-is_fault OutOfMemory = false
+is_fault other = false
 
 -- the entry is the commit of the line, whose steps all change the tree
 pub record IsCommitOf (task : Task) (at : ℕ) (entry : Entry) : Type 0 where
@@ -57,55 +57,76 @@ pub record WouldCommit (tree : Tree) (line : Line) : Type 0 where
   pub changing : list_any is_reading (steps_of line) ≡ false
   pub done : IsOk (do_all tree (steps_of line))
 
--- the line is a sync, and the commits up to its point are settled after at most so many device calls
+-- the line is a sync, and the commits up to its point are settled after at most so many device
+-- calls
 pub record IsSynced (history : List Entry) (line : Line) (at calls : ℕ) : Type 0 where
   pub sync : line ≡ Sync
-  pub settled : (i : ℕ) (entry : Entry) → slice_get history i ≡ Some entry → entry.number ≤ at → (0 < entry.settled) × (entry.settled ≤ calls)
+  pub settled : (i : ℕ) (entry : Entry) → slice_get history i ≡ Some entry → entry.number ≤ at
+      → (0 < entry.settled) × (entry.settled ≤ calls)
 
--- The end of a line is right: a commit is in the history, and an answer or a refusal is the one of the tree at its point.
--- Of a disk that failed and of want of memory nothing more is said, but that a sync alone uses the disk, and takes no memory.
+-- What each kind of end says of its line, at its point. A commit is in the history, an answer or a
+-- refusal is the one of the tree there, and a line that was full would be done on it. Of a disk
+-- that failed and of want of memory nothing more is said, but that a sync alone uses the disk, and takes
+-- no memory.
 abbrev pub IsAnswered : Tree → List Entry → Task → ℕ → EndKind → Type 0
-IsAnswered tree history task at Committed = (i : ℕ) × (entry : Entry) × (slice_get history i ≡ Some entry) × IsCommitOf task at entry
-IsAnswered tree history task at (Seen answer) = (step : Step) × IsSeenBy (tree_at tree history at) task.line answer step
-IsAnswered tree history task at (Refused index refusal) = do_all (tree_at tree history at) (steps_of task.line) ≡ Err (index, refusal)
+IsAnswered tree history task at Committed =
+    (i : ℕ) × (entry : Entry) × (slice_get history i ≡ Some entry) × IsCommitOf task at entry
+IsAnswered tree history task at (Seen answer) =
+    (step : Step) × IsSeenBy (tree_at tree history at) task.line answer step
+IsAnswered tree history task at (Refused index refusal) =
+    do_all (tree_at tree history at) (steps_of task.line) ≡ Err (index, refusal)
 IsAnswered tree history task at (Full full) = WouldCommit (tree_at tree history at) task.line
 IsAnswered tree history task at (Synced calls) = IsSynced history task.line at calls
 IsAnswered tree history task at (DeviceFault count) = task.line ≡ Sync
 IsAnswered tree history task at OutOfMemory = task.line ≢ Sync
 
 -- the line committed with this number
-pub record CommitsAs (tasks : List Task) (outcomes : List LineEnd) (number line : ℕ) (i : ℕ) (task : Task) : Type 0 where
+pub record CommitsAs (tasks : List Task) (outcomes : List LineEnd) (number line : ℕ) (i : ℕ)
+    (task : Task) : Type 0 where
   pub asked : slice_get tasks i ≡ Some task
   pub ended : slice_get outcomes i ≡ Some (record { at = number; kind = Committed })
   pub numbered : task.number ≡ line
 
--- The outcomes are the ends of these lines over this history, made on this tree after `base` commits.
-pub record Transcript (tree : Tree) (base : ℕ) (history : List Entry) (tasks : List Task) (outcomes : List LineEnd) : Type 0 where
+-- The outcomes are the ends of these lines over this history, made on this tree after `base`
+-- commits.
+pub record Transcript (tree : Tree) (base : ℕ) (history : List Entry) (tasks : List Task)
+    (outcomes : List LineEnd) : Type 0 where
   pub legal : Legal tree base history
   -- one outcome for each line
   pub one_each : length outcomes ≡ length tasks
-  pub answered : (i : ℕ) (task : Task) (end : LineEnd) → slice_get tasks i ≡ Some task → slice_get outcomes i ≡ Some end → IsAnswered tree history task end.at end.kind
+  pub answered : (i : ℕ) (task : Task) (end : LineEnd) → slice_get tasks i ≡ Some task
+      → slice_get outcomes i ≡ Some end → IsAnswered tree history task end.at end.kind
   -- each entry of a client is a line that committed
-  pub asked : (k : ℕ) (entry : Entry) → slice_get history k ≡ Some entry → 0 < entry.who → (i : ℕ) × (task : Task) × CommitsAs tasks outcomes entry.number entry.line i task
+  pub asked : (k : ℕ) (entry : Entry) → slice_get history k ≡ Some entry → 0 < entry.who
+      → (i : ℕ) × (task : Task) × CommitsAs tasks outcomes entry.number entry.line i task
   -- every point is one of the history
-  pub within : (i : ℕ) (end : LineEnd) → slice_get outcomes i ≡ Some end → (base ≤ end.at) × (end.at ≤ base + length history)
+  pub within : (i : ℕ) (end : LineEnd) → slice_get outcomes i ≡ Some end
+      → (base ≤ end.at) × (end.at ≤ base + length history)
   -- a client's points never fall, and a commit is above all of its earlier points
-  pub in_order : (i j : ℕ) (former latter : Task) (before after : LineEnd) → i < j → slice_get tasks i ≡ Some former → slice_get tasks j ≡ Some latter → former.client ≡ latter.client
-      → slice_get outcomes i ≡ Some before → slice_get outcomes j ≡ Some after → (before.at ≤ after.at) × (is_committed after.kind ≡ true → before.at < after.at)
+  pub in_order : (i j : ℕ) (former latter : Task) (before after : LineEnd) → i < j
+      → slice_get tasks i ≡ Some former → slice_get tasks j ≡ Some latter
+      → former.client ≡ latter.client → slice_get outcomes i ≡ Some before
+      → slice_get outcomes j ≡ Some after
+      → (before.at ≤ after.at) × (is_committed after.kind ≡ true → before.at < after.at)
 
--- A session of one client alone: each line is answered after all commits of the lines before it, and prints their number, its own commit counted.
-pub record Session (tree : Tree) (base : ℕ) (history : List Entry) (tasks : List Task) (outcomes : List LineEnd) : Type 0 where
+-- A session of one client alone: each line is answered after all commits of the lines before it,
+-- and prints their number, its own commit counted.
+pub record Session (tree : Tree) (base : ℕ) (history : List Entry) (tasks : List Task)
+    (outcomes : List LineEnd) : Type 0 where
   pub transcript : Transcript tree base history tasks outcomes
-  pub points : (i : ℕ) (end : LineEnd) → slice_get outcomes i ≡ Some end → end.at ≡ base + count_by (λ o. is_committed o.kind) (take (i + 1) outcomes)
+  pub points : (i : ℕ) (end : LineEnd) → slice_get outcomes i ≡ Some end
+      → end.at ≡ base + count_by (λ o. is_committed o.kind) (take (i + 1) outcomes)
   pub count : length history ≡ count_by (λ o. is_committed o.kind) outcomes
 
--- The line ends next after the old history, and leaves the new one.
+-- The line ends next after the old history, and leaves the new one: a commit adds its entry, a sync
+-- settles what is there, and every other end leaves the history and is right at its last number.
 abbrev pub EndsNext : Tree → ℕ → List Entry → List Entry → Task → ℕ → EndKind → Type 0
 EndsNext tree base old new task at Committed =
-    (entry : Entry) × (new ≡ old ++ entry ∷ []) × IsCommitOf task at entry × (entry.settled ≡ 0) × (at ≡ base + length old + 1) × IsOk (do_all (tree_at tree old (base + length old)) entry.steps)
-EndsNext tree base old new task at (Seen answer) = (new ≡ old) × (at ≡ base + length old) × IsAnswered tree old task at (Seen answer)
-EndsNext tree base old new task at (Refused index refusal) = (new ≡ old) × (at ≡ base + length old) × IsAnswered tree old task at (Refused index refusal)
-EndsNext tree base old new task at (Full full) = (new ≡ old) × (at ≡ base + length old) × IsAnswered tree old task at (Full full)
-EndsNext tree base old new task at (Synced calls) = (new ≡ settle calls old) × (at ≡ base + length old) × (task.line ≡ Sync) × (0 < calls) × All (λ entry. entry.settled ≤ calls) old
-EndsNext tree base old new task at (DeviceFault count) = (new ≡ old) × (at ≡ base + length old) × IsAnswered tree old task at (DeviceFault count)
-EndsNext tree base old new task at OutOfMemory = (new ≡ old) × (at ≡ base + length old) × IsAnswered tree old task at OutOfMemory
+    (entry : Entry) × (new ≡ old ++ entry ∷ []) × IsCommitOf task at entry × (entry.settled ≡ 0)
+    × (at ≡ base + length old + 1)
+    × IsOk (do_all (tree_at tree old (base + length old)) entry.steps)
+EndsNext tree base old new task at (Synced calls) =
+    (new ≡ settle calls old) × (at ≡ base + length old) × (task.line ≡ Sync) × (0 < calls)
+    × All (λ entry. entry.settled ≤ calls) old
+EndsNext tree base old new task at other =
+    (new ≡ old) × (at ≡ base + length old) × IsAnswered tree old task at other

@@ -1,31 +1,18 @@
 //! The result lines, as they are printed.
 ghost use Rattle.std.specs.Prelude.{◌≡◌, ◌++◌, length, IfOk, OnOk};
 ghost use Rattle.std.specs.String.{string_bytes};
-ghost use Rattle.fx_history.specs.Text.{refusal_word, read_text, spaced_names, list_text, stat_text, seen_text, end_text, result_line, result_text};
+ghost use Rattle.fx_history.specs.Text.{read_text, spaced_names, list_text, stat_text, seen_text, end_text, result_line, result_text};
 
 use crate::outcome::{EndKind, Outcome};
 use fx_item::Name;
-use fx_plain::{Answer, Kind, Refusal};
+use fx_plain::{Answer, Kind};
 use fx_script::{SentLine, Tasks, push_escaped};
 use std::alloc::{AllocError, Global};
 
-/// The word of a refusal.
-fn refusal_word(refusal: Refusal) -> &'static str
-    ensures { result.now ≡ refusal_word refusal }
-{
-    match refusal {
-        Refusal::NotFound => "notfound",
-        Refusal::NotDir => "notdir",
-        Refusal::IsDir => "isdir",
-        Refusal::Exists => "exists",
-        Refusal::NotVolume => "notvolume",
-        Refusal::TooLong => "toolong",
-    }
-}
-
 /// Bytes that were read, behind the text.
 fn push_read(text: &mut String, at: u64, bytes: &[u8]) -> Result<(), AllocError>
-    ensures { OnOk result (string_bytes text.new ≡ string_bytes text.old ++ read_text at bytes.now) }
+    ensures { OnOk result
+        (string_bytes text.new ≡ string_bytes text.old ++ read_text at bytes.now) }
 {
     let count = bytes.len();
     write!(text, "read {at} {count}")?;
@@ -38,7 +25,8 @@ fn push_read(text: &mut String, at: u64, bytes: &[u8]) -> Result<(), AllocError>
 
 /// A space and each name, behind the text.
 fn push_names(text: &mut String, names: &[Name]) -> Result<(), AllocError>
-    ensures { OnOk result (string_bytes text.new ≡ string_bytes text.old ++ spaced_names names.now) }
+    ensures { OnOk result
+        (string_bytes text.new ≡ string_bytes text.old ++ spaced_names names.now) }
 {
     for name in names {
         text.push_str(" ")?;
@@ -49,7 +37,8 @@ fn push_names(text: &mut String, names: &[Name]) -> Result<(), AllocError>
 
 /// The names in a directory, behind the text.
 fn push_list(text: &mut String, at: u64, names: &[Name]) -> Result<(), AllocError>
-    ensures { OnOk result (string_bytes text.new ≡ string_bytes text.old ++ list_text at names.now) }
+    ensures { OnOk result
+        (string_bytes text.new ≡ string_bytes text.old ++ list_text at names.now) }
 {
     let count = names.len();
     write!(text, "list {at} {count}")?;
@@ -64,7 +53,8 @@ fn push_stat(
     size: u32,
     blocks: u32,
 ) -> Result<(), AllocError>
-    ensures { OnOk result (string_bytes text.new ≡ string_bytes text.old ++ stat_text at kind size blocks) }
+    ensures { OnOk result
+        (string_bytes text.new ≡ string_bytes text.old ++ stat_text at kind size blocks) }
 {
     match kind {
         Kind::Dir => write!(text, "stat {at} dir {size} 0"),
@@ -74,7 +64,8 @@ fn push_stat(
 
 /// What was seen of the tree, behind the text.
 fn push_seen(text: &mut String, at: u64, answer: &Answer) -> Result<(), AllocError>
-    ensures { OnOk result (string_bytes text.new ≡ string_bytes text.old ++ seen_text at answer.now) }
+    ensures { OnOk result
+        (string_bytes text.new ≡ string_bytes text.old ++ seen_text at answer.now) }
 {
     match answer {
         Answer::Done => write!(text, "ok {at}"),
@@ -86,14 +77,16 @@ fn push_seen(text: &mut String, at: u64, answer: &Answer) -> Result<(), AllocErr
 
 /// How a line ended, behind the text.
 fn push_end(text: &mut String, outcome: &Outcome) -> Result<(), AllocError>
-    ensures { OnOk result (string_bytes text.new ≡ string_bytes text.old ++ end_text outcome.now.at outcome.now.kind) }
+    ensures { OnOk result
+        (string_bytes text.new ≡
+        string_bytes text.old ++ end_text outcome.now.at outcome.now.kind) }
 {
     let at = outcome.at();
     match outcome.kind() {
         EndKind::Committed => write!(text, "ok {at}"),
         EndKind::Seen(answer) => push_seen(text, at, answer),
         EndKind::Refused(index, refusal) => {
-            let word = refusal_word(*refusal);
+            let word = refusal.word();
             write!(text, "err {at} {index} {word}")
         }
         EndKind::Full(_) => write!(text, "err {at} 0 full"),
@@ -105,7 +98,8 @@ fn push_end(text: &mut String, outcome: &Outcome) -> Result<(), AllocError>
 
 /// A result line, behind the text.
 fn push_line(text: &mut String, line: &SentLine<'_>, outcome: &Outcome) -> Result<(), AllocError>
-    ensures { OnOk result (string_bytes text.new ≡ string_bytes text.old ++ result_line line.now outcome.now) }
+    ensures { OnOk result
+        (string_bytes text.new ≡ string_bytes text.old ++ result_line line.now outcome.now) }
 {
     let client = line.client();
     let number = line.number();
@@ -114,8 +108,8 @@ fn push_line(text: &mut String, line: &SentLine<'_>, outcome: &Outcome) -> Resul
     text.push_str("\n")
 }
 
-/// The result lines, one for each line of a script, each with its line feed. Costs their length, and the bytes of the
-/// script.
+/// The result lines, one for each line of a script, each with its line feed. Costs their length,
+/// and the bytes of the script.
 pub fn result_text(alloc: Global, tasks: &Tasks, outcomes: &[Outcome]) -> Result<String, AllocError>
     requires { length outcomes.now ≡ length tasks.now }
     ensures { IfOk result (λ text. string_bytes text ≡ result_text tasks.now outcomes.now) }

@@ -13,7 +13,8 @@ bare_node (File contents attributes) = File no_contents attributes
 unfoldable pub bare : Tree → Tree
 bare tree = finite.from_entries (map (λ e. (e.0, bare_node e.1)) (finite.entries tree))
 
--- a bare node stands at the path after the step; before it nothing stood there, and the path above was a directory
+-- a bare node stands at the path after the step; before it nothing stood there, and the path above
+-- was a directory
 pub record IsMade (tree : Tree) (path : List (List ℕ)) (node : Node) (after : Tree) : Type 0 where
   pub above : List (List ℕ)
   pub name : List ℕ
@@ -30,7 +31,8 @@ pub record IsCreated (tree : Tree) (path : List (List ℕ)) (after : Tree) : Typ
   pub in_volume : made.above ≢ []
 
 -- the file at the path holds the text, and nothing else changed
-pub record IsWritten (tree : Tree) (path : List (List ℕ)) (at : ℕ) (text : List ℕ) (after : Tree) : Type 0 where
+pub record IsWritten (tree : Tree) (path : List (List ℕ)) (at : ℕ) (text : List ℕ)
+    (after : Tree) : Type 0 where
   pub contents : Contents
   pub attributes : Attributes
   pub file : finite.get tree path ≡ Some (File contents attributes)

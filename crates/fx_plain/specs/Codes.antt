@@ -12,7 +12,8 @@ attributes_code = map.code (coded_list coded_ℕ) (coded_list coded_ℕ)
 
 abbrev pub contents_code : Coded Contents
 contents_code =
-    code_by (List ℕ × Blocks) (coded× (coded_list coded_ℕ) (set.code coded_ℕ)) (λ c. (c.bytes, c.held)) (λ p. record { bytes = p.0; held = p.1 }) (λ _. refl)
+    code_by (List ℕ × Blocks) (coded× (coded_list coded_ℕ) (set.code coded_ℕ))
+    (λ c. (c.bytes, c.held)) (λ p. record { bytes = p.0; held = p.1 }) (λ _. refl)
 
 abbrev pub parts : Node → Attributes ⊎ (Contents × Attributes)
 parts (Dir attributes) = inl attributes
@@ -27,7 +28,9 @@ of_parts-parts (Dir attributes) = refl
 of_parts-parts (File contents attributes) = refl
 
 abbrev pub node_code : Coded Node
-node_code = code_by (Attributes ⊎ (Contents × Attributes)) (coded⊎ attributes_code (coded× contents_code attributes_code)) parts of_parts of_parts-parts
+node_code =
+    code_by (Attributes ⊎ (Contents × Attributes))
+    (coded⊎ attributes_code (coded× contents_code attributes_code)) parts of_parts of_parts-parts
 
 abbrev pub tree_code : Coded Tree
 tree_code = map.code (coded_list (coded_list coded_ℕ)) node_code

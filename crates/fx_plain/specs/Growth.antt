@@ -30,7 +30,8 @@ new_blocks (StatStep path) = 0
 abbrev pub file_blocks : ℕ
 file_blocks = MAX_FILE / BLOCK_BYTES
 
--- what the step adds, at most: its nodes and its blocks, never more blocks than a file has, and no attributes
+-- what the step adds, at most: its nodes and its blocks, never more blocks than a file has, and no
+-- attributes
 pub record Grows (step : Step) (old new : Sizes) : Type 0 where
   pub nodes : new.nodes ≤ old.nodes + new_nodes step
   pub attributes : new.attributes ≡ old.attributes

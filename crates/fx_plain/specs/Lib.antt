@@ -7,3 +7,4 @@ pub mod Kinds
 pub mod Growth
 pub mod Listing
 pub mod Bare
+pub mod Words

@@ -17,8 +17,11 @@ abbrev pub past_child : List (List ℕ) → List ℕ → List (List ℕ)
 past_child directory name = directory ++ (name ++ 0 ∷ []) ∷ []
 
 -- the paths from `from` on go on with this name, which is that of a child or not
-pub record GoesOn (tree : Tree) (directory from : List (List ℕ)) (name : List ℕ) (is_child : Bool) : Type 0 where
-  pub names : children_from tree directory from ≡ (if is_child then name ∷ [] else []) ++ children_from tree directory (past_child directory name)
+pub record GoesOn (tree : Tree) (directory from : List (List ℕ)) (name : List ℕ)
+    (is_child : Bool) : Type 0 where
+  pub names : children_from tree directory from
+      ≡ (if is_child then name ∷ [] else [])
+      ++ children_from tree directory (past_child directory name)
   pub fewer : length (paths_from tree (past_child directory name)) < length (paths_from tree from)
 
 -- a path of the directory's children, whether it is there or not

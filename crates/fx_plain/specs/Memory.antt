@@ -38,7 +38,8 @@ contents_of (File contents attributes) = Some contents
 abbrev pub write_node : ℕ → List ℕ → Node → Result Answer Refusal × Node
 write_node at text (Dir attributes) = (Err IsDir, Dir attributes)
 write_node at text (File contents attributes) =
-    if nat_lt MAX_FILE (at + length text) then (Err TooLong, File contents attributes) else (Ok Done, File (written at text contents) attributes)
+    if nat_lt MAX_FILE (at + length text) then (Err TooLong, File contents attributes)
+    else (Ok Done, File (written at text contents) attributes)
 
 -- the file that a step on a file meets, by what the walk meets and what lies at the path
 abbrev pub file_at : Option Refusal → Option Node → Result Contents Refusal

@@ -45,9 +45,11 @@ overwritten at text bytes = take at bytes ++ text ++ drop (at + length text) byt
 -- the blocks that hold a byte of the text, where it stands from `at` on
 abbrev pub covered : ℕ → List ℕ → List ℕ
 covered at [] = []
-covered at (b ∷ bs) = range_with_len (at / BLOCK_BYTES) ((at + length bs) / BLOCK_BYTES + 1 - at / BLOCK_BYTES)
+covered at (b ∷ bs) =
+    range_with_len (at / BLOCK_BYTES) ((at + length bs) / BLOCK_BYTES + 1 - at / BLOCK_BYTES)
 
--- the file with the text from `at` on: it grows with zeros as needed, and the covered blocks are held
+-- the file with the text from `at` on: it grows with zeros as needed, and the covered blocks are
+-- held
 abbrev pub written : ℕ → List ℕ → Contents → Contents
 written at [] contents = contents
 written at (b ∷ bs) contents = record {

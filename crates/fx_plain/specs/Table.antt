@@ -23,37 +23,45 @@ abbrev pub or_else : Option Refusal → Option Refusal → Option Refusal
 or_else None next = next
 or_else (Some refusal) next = Some refusal
 
--- the first obstacle at a proper prefix of `before ++ names` that has at least the names of `before`
+-- the first obstacle at a proper prefix of `before ++ names` that has at least the names of
+-- `before`
 abbrev pub walk_from : Tree → List (List ℕ) → List (List ℕ) → Option Refusal
 walk_from tree before [] = None
-walk_from tree before (name ∷ names) = or_else (obstacle (get tree before)) (walk_from tree (before ++ name ∷ []) names)
+walk_from tree before (name ∷ names) =
+    or_else (obstacle (get tree before)) (walk_from tree (before ++ name ∷ []) names)
 
 -- the first obstacle at a proper prefix of the path
 abbrev pub walk : Tree → List (List ℕ) → Option Refusal
 walk tree path = walk_from tree [] path
 
 -- a new node at a path where nothing lies
-abbrev pub place : Tree → List (List ℕ) → Node → Option Refusal → Option Node → Result Answer Refusal × Tree
+abbrev pub place : Tree → List (List ℕ) → Node → Option Refusal → Option Node
+    → Result Answer Refusal × Tree
 place tree path node (Some refusal) there = (Err refusal, tree)
 place tree path node None (Some other) = (Err Exists, tree)
 place tree path node None None = (Ok Done, insert tree path node)
 
 abbrev pub mkdir : Tree → List (List ℕ) → Result Answer Refusal × Tree
 mkdir tree [] = (Err Exists, tree)
-mkdir tree (name ∷ names) = place tree (name ∷ names) empty_dir (walk tree (name ∷ names)) (get tree (name ∷ names))
+mkdir tree (name ∷ names) =
+    place tree (name ∷ names) empty_dir (walk tree (name ∷ names)) (get tree (name ∷ names))
 
 abbrev pub create : Tree → List (List ℕ) → Result Answer Refusal × Tree
 create tree [] = (Err NotVolume, tree)
 create tree (volume ∷ []) = (Err NotVolume, tree)
-create tree (volume ∷ name ∷ names) = place tree (volume ∷ name ∷ names) empty_file (walk tree (volume ∷ name ∷ names)) (get tree (volume ∷ name ∷ names))
+create tree (volume ∷ name ∷ names) =
+    place tree (volume ∷ name ∷ names) empty_file (walk tree (volume ∷ name ∷ names))
+    (get tree (volume ∷ name ∷ names))
 
 -- the text in the file at a path, by what the walk meets and what lies there
-abbrev pub write_at : Tree → List (List ℕ) → ℕ → List ℕ → Option Refusal → Option Node → Result Answer Refusal × Tree
+abbrev pub write_at : Tree → List (List ℕ) → ℕ → List ℕ → Option Refusal → Option Node
+    → Result Answer Refusal × Tree
 write_at tree path at text (Some refusal) there = (Err refusal, tree)
 write_at tree path at text None None = (Err NotFound, tree)
 write_at tree path at text None (Some (Dir attributes)) = (Err IsDir, tree)
 write_at tree path at text None (Some (File contents attributes)) =
-    if nat_lt MAX_FILE (at + length text) then (Err TooLong, tree) else (Ok Done, insert tree path (File (written at text contents) attributes))
+    if nat_lt MAX_FILE (at + length text) then (Err TooLong, tree)
+    else (Ok Done, insert tree path (File (written at text contents) attributes))
 
 -- the bytes of a file from `at` on, at most `count` and none past its end
 abbrev pub read_at : ℕ → ℕ → Option Refusal → Option Node → Result Answer Refusal
@@ -70,12 +78,14 @@ list_at tree path None None = Err NotFound
 list_at tree path None (Some (Dir attributes)) = Ok (Names (children tree path))
 list_at tree path None (Some (File contents attributes)) = Err NotDir
 
--- the kind of a node, with the number of a directory's children, or with the bytes and the held blocks of a file
+-- the kind of a node, with the number of a directory's children, or with the bytes and the held
+-- blocks of a file
 abbrev pub stat_at : Tree → List (List ℕ) → Option Refusal → Option Node → Result Answer Refusal
 stat_at tree path (Some refusal) there = Err refusal
 stat_at tree path None None = Err NotFound
 stat_at tree path None (Some (Dir attributes)) = Ok (Stat kind.Dir (length (children tree path)) 0)
-stat_at tree path None (Some (File contents attributes)) = Ok (Stat kind.File (length contents.bytes) (len contents.held))
+stat_at tree path None (Some (File contents attributes)) =
+    Ok (Stat kind.File (length contents.bytes) (len contents.held))
 
 -- what a step answers, or its first refusal, and the tree after it
 abbrev pub do_step : Tree → Step → Result Answer Refusal × Tree
@@ -107,7 +117,8 @@ go_on index (Err refusal) rest = Err (index, refusal)
 -- the steps from the one with this index on, one after another
 abbrev pub do_from : ℕ → Tree → List Step → Result Tree (ℕ × Refusal)
 do_from index tree [] = Ok tree
-do_from index tree (step ∷ steps) = go_on index (do_step tree step).0 (do_from (index + 1) (do_step tree step).1 steps)
+do_from index tree (step ∷ steps) =
+    go_on index (do_step tree step).0 (do_from (index + 1) (do_step tree step).1 steps)
 
 -- the tree after all of the steps, or the first refusal and the index of its step, from 1
 abbrev pub do_all : Tree → List Step → Result Tree (ℕ × Refusal)

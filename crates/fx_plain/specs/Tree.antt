@@ -27,7 +27,8 @@ IsDirAt tree path = (attributes : Attributes) × (map.get tree path ≡ Some (Di
 -- the root is a directory without attributes, and whatever a path goes through is a directory
 pub record IsTree (tree : Tree) : Type 0 where
   pub top : map.get tree [] ≡ Some empty_dir
-  pub above : (path : List (List ℕ)) (name : List ℕ) (node : Node) → map.get tree (path ++ name ∷ []) ≡ Some node → IsDirAt tree path
+  pub above : (path : List (List ℕ)) (name : List ℕ) (node : Node)
+      → map.get tree (path ++ name ∷ []) ≡ Some node → IsDirAt tree path
 
 -- the last name of a path that has one name more than the directory's, and else begins as that does
 abbrev pub child_name : List (List ℕ) → List (List ℕ) → Option (List ℕ)
@@ -35,7 +36,8 @@ child_name [] [] = None
 child_name [] (name ∷ []) = Some name
 child_name [] (name ∷ more ∷ names) = None
 child_name (above ∷ directory) [] = None
-child_name (above ∷ directory) (name ∷ names) = if eq_by_cmp name_cmp above name then child_name directory names else None
+child_name (above ∷ directory) (name ∷ names) =
+    if eq_by_cmp name_cmp above name then child_name directory names else None
 
 -- the names of a directory's children, in the order of their bytes
 abbrev pub children : Tree → List (List ℕ) → List (List ℕ)

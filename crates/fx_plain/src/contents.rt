@@ -16,7 +16,8 @@ pub const MAX_FILE: usize = 16_777_216;
 /// The most bytes of one read.
 pub const MAX_READ: usize = 1_048_576;
 
-/// A file's bytes, and which of its blocks are held: a mark for each block number, false past the end.
+/// A file's bytes, and which of its blocks are held: a mark for each block number, false past the
+/// end.
 #[derive(Debug, Drop)]
 pub struct Contents {
     bytes: Vec<u8>,
@@ -93,7 +94,8 @@ impl Contents {
 
 /// Grows the list to at least `n` places.
 fn grow<T: Copy + Drop>(items: &mut Vec<T>, n: usize, fill: T) -> Result<(), AllocError>
-    ensures ok { OnOk result (items.new.items ≡ items.old.items ++ replicate (n - length items.old.items) fill) }
+    ensures ok { OnOk result
+        (items.new.items ≡ items.old.items ++ replicate (n - length items.old.items) fill) }
     ensures err { OnErr result (items.new.items ≡ items.old.items) }
 {
     if n <= items.len() {
@@ -105,7 +107,8 @@ fn grow<T: Copy + Drop>(items: &mut Vec<T>, n: usize, fill: T) -> Result<(), All
 /// Puts the text in place of the bytes from `at` on.
 fn put(bytes: &mut Vec<u8>, at: usize, text: &[u8])
     requires { at + length text.now ≤ length bytes.old.items }
-    ensures { bytes.new.items ≡ take at bytes.old.items ++ text.now ++ drop (at + length text.now) bytes.old.items }
+    ensures { bytes.new.items
+        ≡ take at bytes.old.items ++ text.now ++ drop (at + length text.now) bytes.old.items }
 {
     let end = at + text.len();
     bytes[at..end].copy_from_slice(text);
@@ -115,7 +118,8 @@ fn put(bytes: &mut Vec<u8>, at: usize, text: &[u8])
 fn mark(marks: &mut Vec<bool>, first: usize, past: usize)
     requires order { first ≤ past }
     requires within { past ≤ length marks.old.items }
-    ensures { marks.new.items ≡ take first marks.old.items ++ replicate (past - first) true ++ drop past marks.old.items }
+    ensures { marks.new.items
+        ≡ take first marks.old.items ++ replicate (past - first) true ++ drop past marks.old.items }
 {
     marks[first..past].fill(true);
 }

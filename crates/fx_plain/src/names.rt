@@ -4,7 +4,8 @@ ghost use Rattle.std.specs.Prelude.{◌≡◌};
 use fx_item::Name;
 use std::marker::Model;
 
-/// Names, as those of a directory's children. Made from a `Vec` and given back without taking memory.
+/// Names, as those of a directory's children. Made from a `Vec` and given back without taking
+/// memory.
 #[derive(Debug, Drop)]
 pub struct Names {
     items: Vec<Name>,

@@ -57,8 +57,8 @@ impl Plain {
 
     /// Does the step, or refuses it and leaves the tree as it was; so does a step that finds too
     /// little memory. Costs the depth of the path times the logarithm of the number of nodes, and
-    /// the bytes that are written, or read and answered; at a directory, to list it or to tell of it
-    /// costs a look-up for each child.
+    /// the bytes that are written, or read and answered; at a directory, to list it or to tell of
+    /// it costs a look-up for each child.
     pub fn step(
         &mut self,
         alloc: Global,
@@ -128,7 +128,9 @@ impl Plain {
 
     /// What keeps a new node from a path.
     fn place_refusal(&self, path: &[Name]) -> Option<Refusal>
-        ensures { (node : Node) → result ≡ refused (place self.now path.now node (walk self.now path.now) (map.get self.now path.now)).0 }
+        ensures { (node : Node) →
+            result ≡ refused
+            (place self.now path.now node (walk self.now path.now) (map.get self.now path.now)).0 }
     {
         if let Some(refusal) = self.walk(path) {
             return Some(refusal);
@@ -140,7 +142,9 @@ impl Plain {
     }
 
     fn write_refusal(&self, path: &[Name], at: u32, text: &[u8]) -> Option<Refusal>
-        ensures { result ≡ refused (write_at self.now path.now at text.now (walk self.now path.now) (map.get self.now path.now)).0 }
+        ensures { result ≡ refused
+            (write_at self.now path.now at text.now (walk self.now path.now)
+            (map.get self.now path.now)).0 }
     {
         if let Err(refusal) = self.file(path) {
             return Some(refusal);
@@ -152,7 +156,8 @@ impl Plain {
     }
 
     fn read_refusal(&self, path: &[Name], at: u32, count: u32) -> Option<Refusal>
-        ensures { result ≡ refused (read_at at count (walk self.now path.now) (map.get self.now path.now)) }
+        ensures { result ≡ refused
+            (read_at at count (walk self.now path.now) (map.get self.now path.now)) }
     {
         if let Err(refusal) = self.file(path) {
             return Some(refusal);
@@ -164,7 +169,8 @@ impl Plain {
     }
 
     fn list_refusal(&self, path: &[Name]) -> Option<Refusal>
-        ensures { result ≡ refused (list_at self.now path.now (walk self.now path.now) (map.get self.now path.now)) }
+        ensures { result ≡ refused
+            (list_at self.now path.now (walk self.now path.now) (map.get self.now path.now)) }
     {
         if let Some(refusal) = self.walk(path) {
             return Some(refusal);
@@ -173,7 +179,8 @@ impl Plain {
     }
 
     fn stat_refusal(&self, path: &[Name]) -> Option<Refusal>
-        ensures { result ≡ refused (stat_at self.now path.now (walk self.now path.now) (map.get self.now path.now)) }
+        ensures { result ≡ refused
+            (stat_at self.now path.now (walk self.now path.now) (map.get self.now path.now)) }
     {
         if let Some(refusal) = self.walk(path) {
             return Some(refusal);
@@ -220,7 +227,10 @@ impl Plain {
         at: u32,
         text: &[u8],
     ) -> Result<Result<Answer, Refusal>, AllocError>
-        ensures ok { IfOk result (λ answer. write_at self.old path.now at text.now (walk self.old path.now) (map.get self.old path.now) ≡ (answer, self.new)) }
+        ensures ok { IfOk result
+            (λ answer.
+            write_at self.old path.now at text.now (walk self.old path.now)
+            (map.get self.old path.now) ≡ (answer, self.new)) }
         ensures err { OnErr result (self.new ≡ self.old) }
     {
         if let Some(refusal) = self.walk(path) {
@@ -240,7 +250,9 @@ impl Plain {
         at: u32,
         count: u32,
     ) -> Result<Result<Answer, Refusal>, AllocError>
-        ensures { IfOk result (λ answer. read_at at count (walk self.now path.now) (map.get self.now path.now) ≡ answer) }
+        ensures { IfOk result
+            (λ answer.
+            read_at at count (walk self.now path.now) (map.get self.now path.now) ≡ answer) }
     {
         let contents = match self.file(path) {
             Ok(contents) => contents,
@@ -256,7 +268,10 @@ impl Plain {
 
     /// Names what lies in the directory at a path.
     fn list(&self, alloc: Global, path: &[Name]) -> Result<Result<Answer, Refusal>, AllocError>
-        ensures { IfOk result (λ answer. list_at self.now path.now (walk self.now path.now) (map.get self.now path.now) ≡ answer) }
+        ensures { IfOk result
+            (λ answer.
+            list_at self.now path.now (walk self.now path.now) (map.get self.now path.now)
+            ≡ answer) }
     {
         if let Some(refusal) = self.walk(path) {
             return Ok(Err(refusal));
@@ -270,7 +285,10 @@ impl Plain {
 
     /// Tells what lies at a path.
     fn stat(&self, alloc: Global, path: &[Name]) -> Result<Result<Answer, Refusal>, AllocError>
-        ensures { IfOk result (λ answer. stat_at self.now path.now (walk self.now path.now) (map.get self.now path.now) ≡ answer) }
+        ensures { IfOk result
+            (λ answer.
+            stat_at self.now path.now (walk self.now path.now) (map.get self.now path.now)
+            ≡ answer) }
     {
         if let Some(refusal) = self.walk(path) {
             return Ok(Err(refusal));
@@ -304,7 +322,8 @@ impl Plain {
     /// whether it ends there.
     fn next_below(&self, path: &[Name], from: &Vec<Name>) -> Option<(&Name, bool)>
         requires { IsBelow path.now from.now.items }
-        ensures { MatchOption result (children_from self.now path.now from.now.items ≡ []) (λ next. GoesOn self.now path.now from.now.items next.0.now next.1) }
+        ensures { MatchOption result (children_from self.now path.now from.now.items ≡ [])
+            (λ next. GoesOn self.now path.now from.now.items next.0.now next.1) }
     {
         let Some(found) = self.first_from(from) else {
             return None;
@@ -320,7 +339,8 @@ impl Plain {
 
     /// The first path from `from` on at which something lies.
     fn first_from(&self, from: &Vec<Name>) -> Option<&Vec<Name>>
-        ensures { MatchOption result (paths_from self.now from.now.items ≡ []) (λ found. IsFirst found.now.items (paths_from self.now from.now.items)) }
+        ensures { MatchOption result (paths_from self.now from.now.items ≡ [])
+            (λ found. IsFirst found.now.items (paths_from self.now from.now.items)) }
     {
         let Some((path, _)) = self.nodes.range(from..).next() else {
             return None;
@@ -330,7 +350,11 @@ impl Plain {
 
     /// The file at a path, or why there is none.
     fn file(&self, path: &[Name]) -> Result<&Contents, Refusal>
-        ensures { MatchResult result (λ contents. file_at (walk self.now path.now) (map.get self.now path.now) ≡ Ok contents.now) (λ refusal. file_at (walk self.now path.now) (map.get self.now path.now) ≡ Err refusal) }
+        ensures { MatchResult result
+            (λ contents.
+            file_at (walk self.now path.now) (map.get self.now path.now) ≡ Ok contents.now)
+            (λ refusal.
+            file_at (walk self.now path.now) (map.get self.now path.now) ≡ Err refusal) }
     {
         if let Some(refusal) = self.walk(path) {
             return Err(refusal);
@@ -388,7 +412,8 @@ impl Plain {
 
 /// Adds the name where it is that of a child.
 fn keep(names: &mut Vec<Name>, name: &Name, is_child: bool) -> Result<(), AllocError>
-    ensures { OnOk result (names.new.items ≡ names.old.items ++ (if is_child then name.now ∷ [] else [])) }
+    ensures { OnOk result
+        (names.new.items ≡ names.old.items ++ (if is_child then name.now ∷ [] else [])) }
 {
     if !is_child {
         return Ok(());
@@ -446,41 +471,57 @@ fn blocks_of(nodes: &BTreeMap<Vec<Name>, Node>) -> usize
 pub fn step_laws()
     ensures root { IsTree root }
     ensures kept { (tree : Tree) (step : Step) → IsTree tree → IsTree (do_step tree step).1 }
-    ensures refused { (tree : Tree) (step : Step) (refusal : Refusal) → (do_step tree step).0 ≡ Err refusal → (do_step tree step).1 ≡ tree }
-    ensures read { (tree : Tree) (step : Step) → is_reading step ≡ true → (do_step tree step).1 ≡ tree }
-    ensures changed { (tree : Tree) (step : Step) (answer : Answer) → is_reading step ≡ false → (do_step tree step).0 ≡ Ok answer → answer ≡ Answer.Done }
-    ensures seen { (tree : Tree) (step : Step) → is_reading step ≡ true → (do_step tree step).0 ≢ Ok Answer.Done }
+    ensures refused { (tree : Tree) (step : Step) (refusal : Refusal)
+        → (do_step tree step).0 ≡ Err refusal → (do_step tree step).1 ≡ tree }
+    ensures read { (tree : Tree) (step : Step) → is_reading step ≡ true
+        → (do_step tree step).1 ≡ tree }
+    ensures changed { (tree : Tree) (step : Step) (answer : Answer) → is_reading step ≡ false
+        → (do_step tree step).0 ≡ Ok answer → answer ≡ Answer.Done }
+    ensures seen { (tree : Tree) (step : Step) → is_reading step ≡ true
+        → (do_step tree step).0 ≢ Ok Answer.Done }
 {}
 
-/// What a tree is without what its files hold: the same nodes at the same paths, where a file has no
-/// bytes and holds no block.
+/// What a tree is without what its files hold: the same nodes at the same paths, where a file has
+/// no bytes and holds no block.
 pub fn bare_laws()
-    ensures get { (tree : Tree) (path : List (List ℕ)) → map.get (bare tree) path ≡ option_map bare_node (map.get tree path) }
+    ensures get { (tree : Tree) (path : List (List ℕ))
+        → map.get (bare tree) path ≡ option_map bare_node (map.get tree path) }
     ensures root { bare root ≡ root }
     ensures again { (tree : Tree) → bare (bare tree) ≡ bare tree }
-    ensures insert { (tree : Tree) (path : List (List ℕ)) (node : Node) → bare (map.insert tree path node) ≡ map.insert (bare tree) path (bare_node node) }
+    ensures insert { (tree : Tree) (path : List (List ℕ)) (node : Node)
+        → bare (map.insert tree path node) ≡ map.insert (bare tree) path (bare_node node) }
 {}
 
 /// What a step that is done changes: a new node stands below a directory, at a path where nothing
 /// lay; a file holds a text, and the tree without what files hold is the same.
 pub fn change_laws()
-    ensures mkdir { (tree : Tree) (path : List (List ℕ)) (answer : Answer) → (do_step tree (Mkdir path)).0 ≡ Ok answer → IsMade tree path empty_dir (do_step tree (Mkdir path)).1 }
-    ensures create { (tree : Tree) (path : List (List ℕ)) (answer : Answer) → (do_step tree (Create path)).0 ≡ Ok answer → IsCreated tree path (do_step tree (Create path)).1 }
-    ensures write { (tree : Tree) (path : List (List ℕ)) (at : ℕ) (text : List ℕ) (answer : Answer) → IsTree tree → (do_step tree (Write path at text)).0 ≡ Ok answer → IsWritten tree path at text (do_step tree (Write path at text)).1 }
+    ensures mkdir { (tree : Tree) (path : List (List ℕ)) (answer : Answer)
+        → (do_step tree (Mkdir path)).0 ≡ Ok answer
+        → IsMade tree path empty_dir (do_step tree (Mkdir path)).1 }
+    ensures create { (tree : Tree) (path : List (List ℕ)) (answer : Answer)
+        → (do_step tree (Create path)).0 ≡ Ok answer
+        → IsCreated tree path (do_step tree (Create path)).1 }
+    ensures write { (tree : Tree) (path : List (List ℕ)) (at : ℕ) (text : List ℕ) (answer : Answer)
+        → IsTree tree → (do_step tree (Write path at text)).0 ≡ Ok answer
+        → IsWritten tree path at text (do_step tree (Write path at text)).1 }
 {}
 
 /// The names of a directory's children, as a step lists them: each once, in the order of their
 /// bytes, and those at whose path something lies.
 pub fn children_laws()
-    ensures there { (tree : Tree) (path : List (List ℕ)) (name : List ℕ) → Contains (children tree path) name ↔ IsSome (map.get tree (path ++ name ∷ [])) }
-    ensures rise { (tree : Tree) (path : List (List ℕ)) → IsStrictlySortedBy name_cmp (children tree path) }
+    ensures there { (tree : Tree) (path : List (List ℕ)) (name : List ℕ)
+        → Contains (children tree path) name ↔ IsSome (map.get tree (path ++ name ∷ [])) }
+    ensures rise { (tree : Tree) (path : List (List ℕ))
+        → IsStrictlySortedBy name_cmp (children tree path) }
 {}
 
 /// A step adds at most one node, at most the blocks of a text that it writes and at most those of
 /// one file, and no attributes. So after `n` steps from the root alone there are at most `n` nodes
 /// and `4096 n` held blocks.
 pub fn size_laws()
-    ensures grows { (tree : Tree) (step : Step) → Grows step (sizes_of tree) (sizes_of (do_step tree step).1) }
+    ensures grows { (tree : Tree) (step : Step)
+        → Grows step (sizes_of tree) (sizes_of (do_step tree step).1) }
     ensures root { IsWithin 0 (sizes_of root) }
-    ensures within { (steps : List Step) → IsWithin (length steps) (sizes_of (tree_after root steps)) }
+    ensures within { (steps : List Step)
+        → IsWithin (length steps) (sizes_of (tree_after root steps)) }
 {}

@@ -1,5 +1,7 @@
 //! The steps of a script, and what they answer.
 ghost use Rattle.std.specs.Prelude.{◌≡◌};
+ghost use Rattle.fx_plain.specs.Table.{is_reading};
+ghost use Rattle.fx_plain.specs.Words.{refusal_word};
 
 use crate::kind::Kind;
 use crate::names::Names;
@@ -24,6 +26,18 @@ pub enum Step {
     List { path: Path },
     /// Tells what lies at a path.
     Stat { path: Path },
+}
+
+impl Step {
+    /// Whether the step looks at the tree and never changes it.
+    pub fn is_reading(&self) -> bool
+        ensures { result ≡ is_reading self.now }
+    {
+        match self {
+            Step::Mkdir { .. } | Step::Create { .. } | Step::Write { .. } => false,
+            Step::Read { .. } | Step::List { .. } | Step::Stat { .. } => true,
+        }
+    }
 }
 
 /// The same step in memory of its own. Costs its bytes.
@@ -131,4 +145,20 @@ pub enum Refusal {
     /// A file would be longer than 16,777,216 bytes, or a read than 1,048,576.
     #[error("it is too long")]
     TooLong,
+}
+
+impl Refusal {
+    /// The word that tells the refusal: its name in small letters.
+    pub fn word(self) -> &'static str
+        ensures { result.now ≡ refusal_word self }
+    {
+        match self {
+            Refusal::NotFound => "notfound",
+            Refusal::NotDir => "notdir",
+            Refusal::IsDir => "isdir",
+            Refusal::Exists => "exists",
+            Refusal::NotVolume => "notvolume",
+            Refusal::TooLong => "toolong",
+        }
+    }
 }

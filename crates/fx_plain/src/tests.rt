@@ -268,7 +268,8 @@ const SIZES: [&str; 8] = [
     "write /v/b 16777216 x",
 ];
 
-// The text of two bytes covers the blocks 0 and 1, the longer one the same, and the last one block 4,095.
+// The text of two bytes covers the blocks 0 and 1, the longer one the same, and the last one block
+// 4,095.
 #[test]
 fn sizes_are_counted(rt: HostRuntime) -> Result<(), Fail> {
     for (count, nodes, blocks) in [

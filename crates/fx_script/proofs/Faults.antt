@@ -1,5 +1,5 @@
 -- No line has want of memory as its fault.
-use Rattle.std.proofs.Common.{◌≡◌, ◌≢◌, ℕ, ◌+◌, ◌&&◌, ◌==◌, Bool, true, false, List, [], ◌∷◌, ap, length}
+use Rattle.std.proofs.Common.{◌≢◌, ℕ, ◌+◌, ◌&&◌, ◌==◌, Bool, true, false, List, [], ◌∷◌, ap, length}
 use Rattle.std.specs.Prelude.{Result, Ok, Err, if◌then◌else◌, nat_le, nat_lt, codes}
 use Rattle.std.specs.List.{list_all}
 use Rattle.std.specs.Str.{bytes_eq}
@@ -10,17 +10,17 @@ use Rattle.fx_item.specs.Name.{is_name}
 use Rattle.fx_plain.specs.declared.path.TheConstants.{MAX_NAMES}
 use Rattle.fx_plain.specs.declared.step.Step.{Step}
 use Rattle.fx_plain.specs.declared.step.Step.TheVariants.{Mkdir, Create, Write, Read, List as ListStep, Stat as StatStep}
-use Rattle.fx_script.specs.declared.line.Line.{Line}
 use Rattle.fx_script.specs.declared.line.Line.TheVariants.{Single}
-use Rattle.fx_script.specs.declared.fault.BadLine.{BadLine}
+use Rattle.fx_script.specs.declared.fault.ScriptFault.{ScriptFault}
+use Rattle.fx_script.specs.declared.fault.ScriptFault.TheVariants.{BadLine}
 use Rattle.fx_script.specs.declared.fault.LineFault.{LineFault}
 use Rattle.fx_script.specs.declared.fault.LineFault.TheVariants as faults
 use Rattle.fx_script.specs.declared.script.Task.{Task}
 use Rattle.fx_script.specs.declared.sent.TheConstants.{MAX_LINES, MAX_CLIENT}
 use Rattle.fx_script.specs.Cut.{cut, is_blank, words_of, lines_of}
-use Rattle.fx_script.specs.Word.{is_decimal, number_of, max_number, text_of, name_of, in_front, names_of, few_names_of, below_root, path_of}
+use Rattle.fx_script.specs.Word.{is_decimal, number_in, max_number, text_of, name_of, in_front, names_of, below_root, path_of}
 use Rattle.fx_script.specs.Line.{◌>>=◌, only_word, only_path, three_words, write_of, read_of, step_of, sync_of, single_of, has_semicolon, line_of_words}
-use Rattle.fx_script.specs.Script.{client_of_number, client_of, if_client, task, first_sender, sender_of, task_of_words, task_of, before_tasks, tasks_from, script_of}
+use Rattle.fx_script.specs.Script.{client_of_number, client_of, task, first_sender, sender_of, task_of_words, task_of, before_tasks, tasks_from, script_of}
 
 -- the fault, if there is one, is not want of memory
 abbrev IsOwn : {A : Type 0} → Result A LineFault → Type 0
@@ -34,7 +34,7 @@ if_own : {A : Type 0} (t : Bool) (r s : Result A LineFault) → IsOwn r → IsOw
 if_own true r s one other e = one e
 if_own false r s one other e = other e
 
-number_own : (word : List ℕ) → IsOwn (number_of word)
+number_own : (word : List ℕ) → IsOwn (number_in word)
 number_own word = if_own (is_decimal word && nat_le (digits_value 10 word) max_number) (Ok (digits_value 10 word)) (Err faults.BadNumber) (λ e. cc) (λ e. cc)
 
 text_own : (word : List ℕ) → IsOwn (text_of word)
@@ -80,17 +80,17 @@ one_path_own make words = then_own (only_path words) (λ path. Ok (make path)) (
 
 write_own : (words : List (List ℕ)) → IsOwn (write_of words)
 write_own words =
-    then_own (three_words words) (λ (found : List ℕ × List ℕ × List ℕ). path_of found.0 >>= λ path. number_of found.1 >>= λ at. text_of found.2 >>= λ text. Ok (Write path at text)) (three_own words)
-    (λ found. then_own (path_of found.0) (λ path. number_of found.1 >>= λ at. text_of found.2 >>= λ text. Ok (Write path at text)) (path_own found.0)
-    (λ path. then_own (number_of found.1) (λ at. text_of found.2 >>= λ text. Ok (Write path at text)) (number_own found.1)
+    then_own (three_words words) (λ (found : List ℕ × List ℕ × List ℕ). path_of found.0 >>= λ path. number_in found.1 >>= λ at. text_of found.2 >>= λ text. Ok (Write path at text)) (three_own words)
+    (λ found. then_own (path_of found.0) (λ path. number_in found.1 >>= λ at. text_of found.2 >>= λ text. Ok (Write path at text)) (path_own found.0)
+    (λ path. then_own (number_in found.1) (λ at. text_of found.2 >>= λ text. Ok (Write path at text)) (number_own found.1)
     (λ at. then_own (text_of found.2) (λ text. Ok (Write path at text)) (text_own found.2) (λ text e. cc))))
 
 read_own : (words : List (List ℕ)) → IsOwn (read_of words)
 read_own words =
-    then_own (three_words words) (λ (found : List ℕ × List ℕ × List ℕ). path_of found.0 >>= λ path. number_of found.1 >>= λ at. number_of found.2 >>= λ count. Ok (Read path at count)) (three_own words)
-    (λ found. then_own (path_of found.0) (λ path. number_of found.1 >>= λ at. number_of found.2 >>= λ count. Ok (Read path at count)) (path_own found.0)
-    (λ path. then_own (number_of found.1) (λ at. number_of found.2 >>= λ count. Ok (Read path at count)) (number_own found.1)
-    (λ at. then_own (number_of found.2) (λ count. Ok (Read path at count)) (number_own found.2) (λ count e. cc))))
+    then_own (three_words words) (λ (found : List ℕ × List ℕ × List ℕ). path_of found.0 >>= λ path. number_in found.1 >>= λ at. number_in found.2 >>= λ count. Ok (Read path at count)) (three_own words)
+    (λ found. then_own (path_of found.0) (λ path. number_in found.1 >>= λ at. number_in found.2 >>= λ count. Ok (Read path at count)) (path_own found.0)
+    (λ path. then_own (number_in found.1) (λ at. number_in found.2 >>= λ count. Ok (Read path at count)) (number_own found.1)
+    (λ at. then_own (number_in found.2) (λ count. Ok (Read path at count)) (number_own found.2) (λ count e. cc))))
 
 step_own : (words : List (List ℕ)) → IsOwn (step_of words)
 step_own [] = λ e. cc
@@ -123,7 +123,7 @@ client_own (Err fault) = λ e. cc
 
 first_own : (words : List (List ℕ)) → IsOwn (first_sender words)
 first_own [] = λ e. cc
-first_own (client ∷ words) = then_own (client_of client) (λ (client : ℕ). Ok (client, words)) (client_own (number_of client)) (λ client e. cc)
+first_own (client ∷ words) = then_own (client_of client) (λ (client : ℕ). Ok (client, words)) (client_own (number_in client)) (λ client e. cc)
 
 sender_own : (many : Bool) (words : List (List ℕ)) → IsOwn (sender_of many words)
 sender_own false words = λ e. cc
@@ -139,14 +139,14 @@ task_own many number line =
     if_own (nat_lt MAX_LINES number) (Err faults.TooManyLines) (if list_all is_ascii line then task_of_words many number (words_of line) else Err faults.NotAscii) (λ e. cc)
     (if_own (list_all is_ascii line) (task_of_words many number (words_of line)) (Err faults.NotAscii) (task_words_own many number (words_of line)) (λ e. cc))
 
-abbrev memory_at : ℕ → Result (List Task) BadLine
-memory_at number = Err (record { number = number; fault = faults.OutOfMemory })
+abbrev memory_at : ℕ → Result (List Task) ScriptFault
+memory_at number = Err (BadLine number faults.OutOfMemory)
 
-abbrev fault_of : Result (List Task) BadLine → LineFault
+abbrev fault_of : Result (List Task) ScriptFault → LineFault
 fault_of (Ok tasks) = faults.Empty
-fault_of (Err bad) = bad.fault
+fault_of (Err (BadLine number fault)) = fault
 
-before_own : (number : ℕ) (first : Result Task LineFault) (rest : Result (List Task) BadLine) (at : ℕ) → IsOwn first → rest ≢ memory_at at → before_tasks number first rest ≢ memory_at at
+before_own : (number : ℕ) (first : Result Task LineFault) (rest : Result (List Task) ScriptFault) (at : ℕ) → IsOwn first → rest ≢ memory_at at → before_tasks number first rest ≢ memory_at at
 before_own number (Err fault) rest at one more e = one (ap (λ f. Err f) (ap fault_of e))
 before_own number (Ok sent) (Err bad) at one more e = more e
 before_own number (Ok sent) (Ok tasks) at one more e = cc

@@ -8,3 +8,4 @@ pub mod Prints
 pub mod Scripts
 pub mod Rules
 pub mod Utf8
+mod RuleTests

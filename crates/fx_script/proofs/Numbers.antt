@@ -11,7 +11,7 @@ use Rattle.std.proofs.lemmas.Fmt.{IsAscii-from_digits}
 use Rattle.std.proofs.lemmas.Str.{IsUtf8-from_ascii}
 use Rattle.std.proofs.lemmas.Str.Parse.{IsNumeralModel, IsDigitsTest, numerals_by_value, parse_digits}
 use Rattle.fx_script.specs.declared.fault.LineFault.TheVariants.{BadNumber}
-use Rattle.fx_script.specs.Word.{is_decimal, number_of, max_number}
+use Rattle.fx_script.specs.Word.{is_decimal, number_in, max_number}
 
 abbrev pub are_digits : List ℕ → Bool
 are_digits ds = list_all is_ascii_digit ds
@@ -38,7 +38,7 @@ IsDecimal-from_test word h =
     record { some = ltb-true 0 (length word) first.0; digits = first.1; lead = parts.1 }
 
 -- digits of a number that is too large
-pub too_large : {E : Type 0} (word : List ℕ) (read : Result ℕ E) (error : E) → is_decimal word ≡ true → ParsesUnsigned 32 10 word read → read ≡ Err error → Err BadNumber ≡ number_of word
+pub too_large : {E : Type 0} (word : List ℕ) (read : Result ℕ E) (error : E) → is_decimal word ≡ true → ParsesUnsigned 32 10 word read → read ≡ Err error → Err BadNumber ≡ number_in word
 too_large word read error h parsed is =
     let d = IsDecimal-from_test word h in
     let none = OkIff-at_err read ((0 < length word) × (digits_value 10 word < 2 ^ 32)) (digits_value 10 word) error (parse_digits own 32 word read parsed d.digits) is in

@@ -18,10 +18,10 @@ use Rattle.fx_plain.specs.declared.step.Step.TheVariants.{Mkdir, Create, Write, 
 use Rattle.fx_script.specs.declared.line.Line.{Line}
 use Rattle.fx_script.specs.declared.line.Line.TheVariants.{Single, Sync}
 use Rattle.fx_script.specs.Cut.{onto_first, cut, words_of}
-use Rattle.fx_script.specs.Word.{is_decimal, number_of, max_number, text_of, if_name, name_of, names_of, few_names_of, below_root, path_of}
+use Rattle.fx_script.specs.Word.{is_decimal, number_in, max_number, text_of, if_name, name_of, names_of, few_names_of, below_root, path_of}
 use Rattle.fx_script.specs.Line.{line_of_words, line_of}
 use Rattle.fx_script.specs.Escape.{escaped}
-use Rattle.fx_script.specs.Print.{names_text, path_text, step_words, spaced, line_text, IsPath, IsText, KeepsRules}
+use Rattle.fx_script.specs.Print.{names_text, path_text, step_words, spaced, line_text, IsPath, IsText, LineKeepsRules}
 use Rattle.fx_script.proofs.Numbers.{own}
 use Rattle.fx_script.proofs.Utf8.{AreBytes, AreBytes-from_utf8}
 use Rattle.fx_script.proofs.Escapes.{is_escape_byte, clean, decode-escaped, escaped_some}
@@ -58,7 +58,7 @@ cut_next at (x ∷ xs) rest h =
 
 -- ---- numbers
 
-number_printed : (n : ℕ) → n ≤ max_number → number_of (decimal n) ≡ Ok n
+number_printed : (n : ℕ) → n ≤ max_number → number_in (decimal n) ≡ Ok n
 number_printed n h =
     let small : n < 2 ^ 64 = omega arith in
     let digits = digits_decimal own n small in
@@ -237,7 +237,7 @@ stat_printed : (path : List (List ℕ)) → IsPath path → line_of (spaced (ste
 stat_printed path h =
     line_spaced (codes "stat") (path_text path ∷ []) (refl, (path_word path h, tt)) ∙ rw (path_not_semicolon path, path_printed path h) refl
 
-pub line_printed : (line : Line) → KeepsRules line → line_of (line_text line) ≡ Ok line
+pub line_printed : (line : Line) → LineKeepsRules line → line_of (line_text line) ≡ Ok line
 line_printed (Single (Mkdir path)) h = mkdir_printed path h
 line_printed (Single (Create path)) h = create_printed path h
 line_printed (Single (Write path at text)) h = write_printed path at text h.0 h.1 h.2

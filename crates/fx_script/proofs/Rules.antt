@@ -18,14 +18,14 @@ use Rattle.fx_script.specs.declared.line.Line.TheVariants.{Single, Sync}
 use Rattle.fx_script.specs.declared.fault.LineFault.{LineFault}
 use Rattle.fx_script.specs.declared.fault.LineFault.TheVariants as faults
 use Rattle.fx_script.specs.declared.script.Task.{Task}
-use Rattle.fx_script.specs.declared.fault.BadLine.{BadLine}
+use Rattle.fx_script.specs.declared.fault.ScriptFault.{ScriptFault}
 use Rattle.fx_script.specs.declared.sent.TheConstants.{MAX_LINES, MAX_CLIENT}
 use Rattle.fx_script.specs.Cut.{onto_first, cut, is_blank, words_of, lines_of}
-use Rattle.fx_script.specs.Word.{is_decimal, number_of, max_number, text_of, name_of, in_front, names_of, few_names_of, below_root, path_of}
+use Rattle.fx_script.specs.Word.{is_decimal, number_in, max_number, text_of, name_of, in_front, names_of, few_names_of, below_root, path_of}
 use Rattle.fx_script.specs.Line.{◌>>=◌, only_word, only_path, three_words, mkdir_of, create_of, write_of, read_of, list_of, stat_of, step_of, sync_of, single_of, has_semicolon, line_of_words}
 use Rattle.fx_script.specs.Checked.{line_read}
 use Rattle.fx_script.specs.Sent.{IsSent}
-use Rattle.fx_script.specs.Print.{IsPath, IsText, StepKeepsRules, KeepsRules}
+use Rattle.fx_script.specs.Print.{IsPath, IsText, StepKeepsRules, LineKeepsRules}
 use Rattle.fx_script.specs.Script.{client_of_number, client_of, task, first_sender, sender_of, task_of_words, task_of, before_tasks, tasks_from, script_of}
 use Rattle.fx_script.proofs.Utf8.{IsByte, AreBytes}
 
@@ -51,7 +51,7 @@ unless_ok false r fault y e = e
 
 -- ---- words
 
-number_small : (word : List ℕ) (n : ℕ) → number_of word ≡ Ok n → n ≤ max_number
+number_small : (word : List ℕ) (n : ℕ) → number_in word ≡ Ok n → n ≤ max_number
 number_small word n e =
     let value : ℕ = digits_value 10 word in
     let told = if_ok (is_decimal word && nat_le value max_number) (Ok value) faults.BadNumber n e in
@@ -163,18 +163,18 @@ path_step make words step keeps e =
 
 write_step : (words : List (List ℕ)) (step : Step) → AreWords words → write_of words ≡ Ok step → StepKeepsRules step
 write_step words step h e =
-    let found = made_of (three_words words) (λ (found : List ℕ × List ℕ × List ℕ). path_of found.0 >>= λ path. number_of found.1 >>= λ at. text_of found.2 >>= λ text. Ok (Write path at text)) step e in
-    let path = made_of (path_of found.x.0) (λ path. number_of found.x.1 >>= λ at. text_of found.x.2 >>= λ text. Ok (Write path at text)) step found.gives in
-    let at = made_of (number_of found.x.1) (λ at. text_of found.x.2 >>= λ text. Ok (Write path.x at text)) step path.gives in
+    let found = made_of (three_words words) (λ (found : List ℕ × List ℕ × List ℕ). path_of found.0 >>= λ path. number_in found.1 >>= λ at. text_of found.2 >>= λ text. Ok (Write path at text)) step e in
+    let path = made_of (path_of found.x.0) (λ path. number_in found.x.1 >>= λ at. text_of found.x.2 >>= λ text. Ok (Write path at text)) step found.gives in
+    let at = made_of (number_in found.x.1) (λ at. text_of found.x.2 >>= λ text. Ok (Write path.x at text)) step path.gives in
     let text = made_of (text_of found.x.2) (λ text. Ok (Write path.x at.x text)) step at.gives in
     answered (Write path.x at.x text.x) step text.gives (path_named found.x.0 path.x path.is, number_small found.x.1 at.x at.is, text_bytes found.x.2 text.x (third_word words found.x h found.is) text.is)
 
 read_step : (words : List (List ℕ)) (step : Step) → read_of words ≡ Ok step → StepKeepsRules step
 read_step words step e =
-    let found = made_of (three_words words) (λ (found : List ℕ × List ℕ × List ℕ). path_of found.0 >>= λ path. number_of found.1 >>= λ at. number_of found.2 >>= λ count. Ok (Read path at count)) step e in
-    let path = made_of (path_of found.x.0) (λ path. number_of found.x.1 >>= λ at. number_of found.x.2 >>= λ count. Ok (Read path at count)) step found.gives in
-    let at = made_of (number_of found.x.1) (λ at. number_of found.x.2 >>= λ count. Ok (Read path.x at count)) step path.gives in
-    let count = made_of (number_of found.x.2) (λ count. Ok (Read path.x at.x count)) step at.gives in
+    let found = made_of (three_words words) (λ (found : List ℕ × List ℕ × List ℕ). path_of found.0 >>= λ path. number_in found.1 >>= λ at. number_in found.2 >>= λ count. Ok (Read path at count)) step e in
+    let path = made_of (path_of found.x.0) (λ path. number_in found.x.1 >>= λ at. number_in found.x.2 >>= λ count. Ok (Read path at count)) step found.gives in
+    let at = made_of (number_in found.x.1) (λ at. number_in found.x.2 >>= λ count. Ok (Read path.x at count)) step path.gives in
+    let count = made_of (number_in found.x.2) (λ count. Ok (Read path.x at.x count)) step at.gives in
     answered (Read path.x at.x count.x) step count.gives (path_named found.x.0 path.x path.is, number_small found.x.1 at.x at.is, number_small found.x.2 count.x count.is)
 
 -- one of two, by a test
@@ -195,37 +195,37 @@ step_rules (word ∷ words) step h e =
 
 -- ---- lines
 
-sync_rules : (words : List (List ℕ)) (line : Line) → sync_of words ≡ Ok line → KeepsRules line
-sync_rules [] line e = let same : Sync ≡ line = cc in subst KeepsRules same tt
+sync_rules : (words : List (List ℕ)) (line : Line) → sync_of words ≡ Ok line → LineKeepsRules line
+sync_rules [] line e = let same : Sync ≡ line = cc in subst LineKeepsRules same tt
 sync_rules (word ∷ words) line e = absurd (cc)
 
-single_rules : (words : List (List ℕ)) (line : Line) → AreWords words → single_of words ≡ Ok line → KeepsRules line
+single_rules : (words : List (List ℕ)) (line : Line) → AreWords words → single_of words ≡ Ok line → LineKeepsRules line
 single_rules [] line h e = absurd (cc)
 single_rules (word ∷ words) line h e = by (bytes_eq word (codes "sync")) e
   where
-    by : (t : Bool) → (if t then sync_of words else (step_of (word ∷ words) >>= λ step. Ok (Single step))) ≡ Ok line → KeepsRules line
+    by : (t : Bool) → (if t then sync_of words else (step_of (word ∷ words) >>= λ step. Ok (Single step))) ≡ Ok line → LineKeepsRules line
     by true e = sync_rules words line e
     by false e =
         let step = made_of (step_of (word ∷ words)) (λ step. Ok (Single step)) line e in
         let same : Single step.x ≡ line = cc step.gives in
-        subst KeepsRules same (step_rules (word ∷ words) step.x h step.is)
+        subst LineKeepsRules same (step_rules (word ∷ words) step.x h step.is)
 
-words_rules : (words : List (List ℕ)) (line : Line) → AreWords words → line_of_words words ≡ Ok line → KeepsRules line
+words_rules : (words : List (List ℕ)) (line : Line) → AreWords words → line_of_words words ≡ Ok line → LineKeepsRules line
 words_rules words line h e =
     let some = unless_ok (is_blank words) (if has_semicolon words then Err faults.UnknownWord else single_of words) faults.Empty line e in
     single_rules words line h (unless_ok (has_semicolon words) (single_of words) faults.UnknownWord line some)
 
 -- a line of ASCII that is read keeps the rules
-pub line_rules : (bytes : List ℕ) (line : Line) → list_all is_ascii bytes ≡ true → line_of_words (words_of bytes) ≡ Ok line → KeepsRules line
+pub line_rules : (bytes : List ℕ) (line : Line) → list_all is_ascii bytes ≡ true → line_of_words (words_of bytes) ≡ Ok line → LineKeepsRules line
 line_rules bytes line ascii e = words_rules (words_of bytes) line (cut_words 32 bytes ascii) e
 
 -- ---- scripts
 
-task_rules : (number client : ℕ) (words : List (List ℕ)) (t : Task) → AreWords words → task number client words ≡ Ok t → KeepsRules t.line
+task_rules : (number client : ℕ) (words : List (List ℕ)) (t : Task) → AreWords words → task number client words ≡ Ok t → LineKeepsRules t.line
 task_rules number client words t h e =
     let line = made_of (line_of_words words) (λ line. Ok (let x : Task = record { client = client; number = number; line = line } in x)) t e in
     let same : (let x : Task = record { client = client; number = number; line = line.x } in x) ≡ t = cc line.gives in
-    subst (λ (x : Task). KeepsRules x.line) same (words_rules words line.x h line.is)
+    subst (λ (x : Task). LineKeepsRules x.line) same (words_rules words line.x h line.is)
 
 first_rules : (words : List (List ℕ)) (found : ℕ × List (List ℕ)) → AreWords words → first_sender words ≡ Ok found → AreWords found.1
 first_rules [] found h e = absurd (cc)
@@ -260,7 +260,7 @@ first_client [] found e = absurd (cc)
 first_client (client ∷ words) found e =
     let sender = made_of (client_of client) (λ (client : ℕ). Ok (client, words)) found e in
     let same : (sender.x, words) ≡ found = cc sender.gives in
-    subst (λ (f : ℕ × List (List ℕ)). IsClient f.0) same (number_client (number_of client) sender.x sender.is)
+    subst (λ (f : ℕ × List (List ℕ)). IsClient f.0) same (number_client (number_in client) sender.x sender.is)
 
 sender_client : (many : Bool) (words : List (List ℕ)) (found : ℕ × List (List ℕ)) → sender_of many words ≡ Ok found → IsClient found.0
 sender_client false words found e =
@@ -276,32 +276,32 @@ is_sent many line client words ascii sent right = record {
   from = sender_client many (words_of line) (client, words) (sym sent);
 }
 
-task_words_rules : (many : Bool) (number : ℕ) (words : List (List ℕ)) (t : Task) → AreWords words → task_of_words many number words ≡ Ok t → KeepsRules t.line
+task_words_rules : (many : Bool) (number : ℕ) (words : List (List ℕ)) (t : Task) → AreWords words → task_of_words many number words ≡ Ok t → LineKeepsRules t.line
 task_words_rules many number words t h e =
     let found = made_of (sender_of many words) (λ (found : ℕ × List (List ℕ)). task number found.0 found.1) t e in
     task_rules number found.x.0 found.x.1 t (sender_rules many words found.x h found.is) found.gives
 
-one_task_rules : (many : Bool) (number : ℕ) (line : List ℕ) (t : Task) → task_of many number line ≡ Ok t → KeepsRules t.line
+one_task_rules : (many : Bool) (number : ℕ) (line : List ℕ) (t : Task) → task_of many number line ≡ Ok t → LineKeepsRules t.line
 one_task_rules many number line t e =
     let few = unless_ok (nat_lt MAX_LINES number) (if list_all is_ascii line then task_of_words many number (words_of line) else Err faults.NotAscii) faults.TooManyLines t e in
     let told = if_ok (list_all is_ascii line) (task_of_words many number (words_of line)) faults.NotAscii t few in
     task_words_rules many number (words_of line) t (cut_words 32 line told.0) told.1
 
 abbrev pub AllKeepRules : List Task → Type 0
-AllKeepRules tasks = All (λ task. KeepsRules task.line) tasks
+AllKeepRules tasks = All (λ task. LineKeepsRules task.line) tasks
 
-before_rules : (number : ℕ) (first : Result Task LineFault) (rest : Result (List Task) BadLine) (ts : List Task) → ((t : Task) → first ≡ Ok t → KeepsRules t.line)
+before_rules : (number : ℕ) (first : Result Task LineFault) (rest : Result (List Task) ScriptFault) (ts : List Task) → ((t : Task) → first ≡ Ok t → LineKeepsRules t.line)
     → ((us : List Task) → rest ≡ Ok us → AllKeepRules us) → before_tasks number first rest ≡ Ok ts → AllKeepRules ts
 before_rules number (Err fault) rest ts one more e = absurd (cc)
 before_rules number (Ok t) (Err fault) ts one more e = absurd (cc)
 before_rules number (Ok t) (Ok us) ts one more e =
     let same : t ∷ us ≡ ts = cc in
-    subst AllKeepRules same (All-cons (λ (task : Task). KeepsRules task.line) t us (one t refl) (more us refl))
+    subst AllKeepRules same (All-cons (λ (task : Task). LineKeepsRules task.line) t us (one t refl) (more us refl))
 
 from_rules : (many : Bool) (number : ℕ) (lines : List (List ℕ)) (ts : List Task) → tasks_from many number lines ≡ Ok ts → AllKeepRules ts
 from_rules many number [] ts e =
     let none : [] ≡ ts = cc in
-    subst AllKeepRules none (All-nil (λ (task : Task). KeepsRules task.line))
+    subst AllKeepRules none (All-nil (λ (task : Task). LineKeepsRules task.line))
 from_rules many number (line ∷ lines) ts e =
     before_rules number (task_of many number line) (tasks_from many (number + 1) lines) ts
     (λ t one. one_task_rules many number line t one) (λ us more. from_rules many (number + 1) lines us more) e

@@ -1,10 +1,11 @@
 -- Lines after those that were checked.
-use Rattle.std.proofs.Common.{◌≡◌, ℕ, ◌≤◌, Bool, true, false, ◌+◌, ◌∙◌, List, [], ◌∷◌, refl, sym, ap, subst, length, arith}
+use Rattle.std.proofs.Common.{◌≡◌, ℕ, ◌≤◌, Bool, true, false, ◌+◌, ◌∙◌, List, ◌∷◌, refl, sym, ap, subst, length, arith}
 use Rattle.std.specs.Prelude.{Result, Ok, Err, IsOk, nat_lt, if◌then◌else◌}
 use Rattle.std.specs.List.{list_all}
 use Rattle.std.specs.Char.{is_ascii}
 use Rattle.std.proofs.lemmas.Bool.Decides.{nat_tests}
-use Rattle.fx_script.specs.declared.fault.BadLine.{BadLine}
+use Rattle.fx_script.specs.declared.fault.ScriptFault.{ScriptFault}
+use Rattle.fx_script.specs.declared.fault.ScriptFault.TheVariants.{BadLine}
 use Rattle.fx_script.specs.declared.fault.LineFault.{LineFault}
 use Rattle.fx_script.specs.declared.fault.LineFault.TheVariants.{TooManyLines, NotAscii}
 use Rattle.fx_script.specs.declared.line.Line.{Line}
@@ -28,18 +29,18 @@ pub count_more : (many : Bool) (count : ℕ) (line : List ℕ) (lines : List (Li
     → counted (count + 1) (tasks_from many (count + 1 + 1) lines) ≡ counted count (tasks_from many (count + 1) (line ∷ lines))
 count_more many count line lines task h = onto (tasks_from many (count + 1 + 1) lines) ∙ ap (λ (first : Result Task LineFault). counted count (before_tasks (count + 1) first (tasks_from many (count + 1 + 1) lines))) h
   where
-    onto : (rest : Result (List Task) BadLine) → counted (count + 1) rest ≡ counted count (before_tasks (count + 1) (Ok task) rest)
+    onto : (rest : Result (List Task) ScriptFault) → counted (count + 1) rest ≡ counted count (before_tasks (count + 1) (Ok task) rest)
     onto (Ok tasks) = ap Ok (let e : count + 1 + length tasks ≡ count + length (task ∷ tasks) = omega arith in e)
     onto (Err fault) = refl
 
 -- the next line is wrong
 pub count_wrong : (many : Bool) (count : ℕ) (line : List ℕ) (lines : List (List ℕ)) (fault : LineFault) → Err fault ≡ task_of many (count + 1) line
-    → Err (let bad : BadLine = record { number = count + 1; fault = fault } in bad) ≡ counted count (tasks_from many (count + 1) (line ∷ lines))
+    → Err (BadLine (count + 1) fault) ≡ counted count (tasks_from many (count + 1) (line ∷ lines))
 count_wrong many count line lines fault h = ap (λ (first : Result Task LineFault). counted count (before_tasks (count + 1) first (tasks_from many (count + 1 + 1) lines))) h
 
 -- ---- tasks that were read
 
-right_parts : (number : ℕ) (first : Result Task LineFault) (rest : Result (List Task) BadLine) → IsOk (before_tasks number first rest) → IsOk first × IsOk rest
+right_parts : (number : ℕ) (first : Result Task LineFault) (rest : Result (List Task) ScriptFault) → IsOk (before_tasks number first rest) → IsOk first × IsOk rest
 right_parts number (Err fault) rest e = absurd (cc)
 right_parts number (Ok task) (Err fault) e = absurd (cc)
 right_parts number (Ok task) (Ok tasks) e = (refl, refl)
@@ -54,16 +55,16 @@ pub read_first : (many : Bool) (number : ℕ) (line : List ℕ) (lines : List (L
     → tasks_read (tasks_from many number (line ∷ lines)) ≡ task ∷ tasks_read (tasks_from many (number + 1) lines)
 read_first many number line lines task h e = by (tasks_from many (number + 1) lines) (rest_right many number line lines h)
   where
-    by : (rest : Result (List Task) BadLine) → IsOk rest → tasks_read (before_tasks number (task_of many number line) rest) ≡ task ∷ tasks_read rest
+    by : (rest : Result (List Task) ScriptFault) → IsOk rest → tasks_read (before_tasks number (task_of many number line) rest) ≡ task ∷ tasks_read rest
     by (Err fault) k = absurd (cc)
-    by (Ok tasks) k = sym (ap (λ (first : Result Task LineFault). tasks_read (before_tasks number first (let r : Result (List Task) BadLine = Ok tasks in r))) e)
+    by (Ok tasks) k = sym (ap (λ (first : Result Task LineFault). tasks_read (before_tasks number first (let r : Result (List Task) ScriptFault = Ok tasks in r))) e)
 
 -- a script whose lines are counted is right
-pub right_counted : (count before : ℕ) (found : Result (List Task) BadLine) → Ok count ≡ counted before found → IsOk found
+pub right_counted : (count before : ℕ) (found : Result (List Task) ScriptFault) → Ok count ≡ counted before found → IsOk found
 right_counted count before (Ok tasks) e = refl
 right_counted count before (Err fault) e = absurd (cc)
 
-pub read_is : (found : Result (List Task) BadLine) → IsOk found → found ≡ Ok (tasks_read found)
+pub read_is : (found : Result (List Task) ScriptFault) → IsOk found → found ≡ Ok (tasks_read found)
 read_is (Ok tasks) e = refl
 read_is (Err fault) e = absurd (cc)
 

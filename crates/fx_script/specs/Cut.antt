@@ -10,7 +10,8 @@ onto_first b (piece ∷ pieces) = (b ∷ piece) ∷ pieces
 -- the pieces between the bytes that are the separator: one more than there are such bytes
 abbrev pub cut : ℕ → List ℕ → List (List ℕ)
 cut separator [] = [] ∷ []
-cut separator (b ∷ bs) = if b == separator then [] ∷ cut separator bs else onto_first b (cut separator bs)
+cut separator (b ∷ bs) =
+    if b == separator then [] ∷ cut separator bs else onto_first b (cut separator bs)
 
 -- the pieces of what is left, if anything is
 abbrev pub cut_rest : ℕ → Option (Bor (List ℕ)) → List (List ℕ)

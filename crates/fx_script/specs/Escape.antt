@@ -10,7 +10,8 @@ is_plain b = is_ascii_alphanumeric b || b == 46 || b == 45 || b == 95 || b == 12
 
 -- the byte, or `%` and its two hexadecimal digits, in capitals
 abbrev pub escaped_byte : ℕ → List ℕ
-escaped_byte b = if is_plain b then b ∷ [] else 37 ∷ digit_glyph true (b / 16) ∷ digit_glyph true (b % 16) ∷ []
+escaped_byte b =
+    if is_plain b then b ∷ [] else 37 ∷ digit_glyph true (b / 16) ∷ digit_glyph true (b % 16) ∷ []
 
 abbrev pub escaped : List ℕ → List ℕ
 escaped bytes = flat_map escaped_byte bytes

@@ -11,11 +11,12 @@ use Rattle.fx_script.specs.declared.line.Line.TheVariants.{Single, Sync}
 use Rattle.fx_script.specs.declared.fault.LineFault.{LineFault}
 use Rattle.fx_script.specs.declared.fault.LineFault.TheVariants as faults
 use Rattle.fx_script.specs.Cut.{is_blank, words_of}
-use Rattle.fx_script.specs.Word.{path_of, number_of, text_of}
+use Rattle.fx_script.specs.Word.{path_of, number_in, text_of}
 
 -- what is made of a value, or the fault that there is in place of it
 infixl 10 ◌>>=◌
-abbrev pub ◌>>=◌ : {A B : Type 0} → Result A LineFault → (A → Result B LineFault) → Result B LineFault
+abbrev pub ◌>>=◌ : {A B : Type 0} → Result A LineFault → (A → Result B LineFault)
+    → Result B LineFault
 (Ok x) >>= f = f x
 (Err fault) >>= f = Err fault
 
@@ -33,7 +34,8 @@ three_words words = Err faults.WordCount
 abbrev pub seen_word : Result (Bor (List ℕ)) LineFault → Result (List ℕ) LineFault
 seen_word found = found >>= λ word. Ok word.now
 
-abbrev pub seen_words : Result (Bor (List ℕ) × Bor (List ℕ) × Bor (List ℕ)) LineFault → Result (List ℕ × List ℕ × List ℕ) LineFault
+abbrev pub seen_words : Result (Bor (List ℕ) × Bor (List ℕ) × Bor (List ℕ)) LineFault
+    → Result (List ℕ × List ℕ × List ℕ) LineFault
 seen_words found = found >>= λ words. Ok (words.0.now, words.1.now, words.2.now)
 
 -- the one word, which is a path
@@ -53,7 +55,7 @@ abbrev pub write_of : List (List ℕ) → Result Step LineFault
 write_of words =
     three_words words >>= λ (path, at, text).
     path_of path >>= λ path.
-    number_of at >>= λ at.
+    number_in at >>= λ at.
     text_of text >>= λ text.
     Ok (Write path at text)
 
@@ -62,8 +64,8 @@ abbrev pub read_of : List (List ℕ) → Result Step LineFault
 read_of words =
     three_words words >>= λ (path, at, count).
     path_of path >>= λ path.
-    number_of at >>= λ at.
-    number_of count >>= λ count.
+    number_in at >>= λ at.
+    number_in count >>= λ count.
     Ok (Read path at count)
 
 -- `list PATH`
@@ -102,7 +104,8 @@ single_of (word ∷ words) =
 abbrev pub has_semicolon : List (List ℕ) → Bool
 has_semicolon words = list_any (λ word. bytes_eq word (codes ";")) words
 
--- what the words of a line say, or their first fault: that there are none, a group, then those of `sync` or of the step
+-- what the words of a line say, or their first fault: that there are none, a group, then those of
+-- `sync` or of the step
 abbrev pub line_of_words : List (List ℕ) → Result Line LineFault
 line_of_words words =
     if is_blank words then Err faults.Empty

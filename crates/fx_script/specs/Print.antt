@@ -60,6 +60,6 @@ StepKeepsRules (ListStep path) = IsPath path
 StepKeepsRules (StatStep path) = IsPath path
 
 -- a line that the grammar has: its paths, numbers and texts are those of words
-abbrev pub KeepsRules : Line → Type 0
-KeepsRules (Single step) = StepKeepsRules step
-KeepsRules Sync = Unit {0}
+abbrev pub LineKeepsRules : Line → Type 0
+LineKeepsRules (Single step) = StepKeepsRules step
+LineKeepsRules Sync = Unit {0}

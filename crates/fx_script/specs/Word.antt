@@ -16,11 +16,15 @@ max_number = 4294967295
 
 -- `0`, or digits without a leading zero
 abbrev pub is_decimal : List ℕ → Bool
-is_decimal word = nat_lt 0 (length word) && list_all is_ascii_digit word && (length word == 1 || not (slice_index word 0 == 48))
+is_decimal word =
+    nat_lt 0 (length word) && list_all is_ascii_digit word
+    && (length word == 1 || not (slice_index word 0 == 48))
 
 -- a number
-abbrev pub number_of : List ℕ → Result ℕ LineFault
-number_of word = if is_decimal word && nat_le (digits_value 10 word) max_number then Ok (digits_value 10 word) else Err BadNumber
+abbrev pub number_in : List ℕ → Result ℕ LineFault
+number_in word =
+    if is_decimal word && nat_le (digits_value 10 word) max_number then Ok (digits_value 10 word)
+    else Err BadNumber
 
 -- a text of one byte or more, with each `%XX` decoded
 abbrev pub text_of : List ℕ → Result (List ℕ) LineFault
@@ -34,7 +38,8 @@ if_name text = if is_name text then Ok text else Err BadPath
 abbrev pub name_of : List ℕ → Result (List ℕ) LineFault
 name_of piece = if_name (percent_decode piece)
 
-abbrev pub in_front : Result (List ℕ) LineFault → Result (List (List ℕ)) LineFault → Result (List (List ℕ)) LineFault
+abbrev pub in_front : Result (List ℕ) LineFault → Result (List (List ℕ)) LineFault
+    → Result (List (List ℕ)) LineFault
 in_front (Err fault) names = Err fault
 in_front (Ok name) (Err fault) = Err fault
 in_front (Ok name) (Ok names) = Ok (name ∷ names)

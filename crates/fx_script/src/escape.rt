@@ -14,8 +14,8 @@ const ESCAPED: AsciiSet = ascii_set!(
         .remove(b'~')
 );
 
-/// Appends the bytes, each but a letter, a digit, `.`, `-`, `_` and `~` of ASCII as `%` and two hexadecimal digits in
-/// capitals. Where memory runs out the text is as before. Costs the bytes.
+/// Appends the bytes, each but a letter, a digit, `.`, `-`, `_` and `~` of ASCII as `%` and two
+/// hexadecimal digits in capitals. Where memory runs out the text is as before. Costs the bytes.
 pub fn push_escaped(text: &mut String, bytes: &[u8]) -> Result<(), AllocError>
     ensures ok { OnOk result (string_bytes text.new ≡ string_bytes text.old ++ escaped bytes.now) }
     ensures err { OnErr result (string_bytes text.new ≡ string_bytes text.old) }

@@ -6,7 +6,8 @@ ghost use Rattle.fx_script.specs.Fault.{fault_word};
 use std::alloc::AllocError;
 use thiserror::Error;
 
-/// Why a line was not read: the first fault in this order, but for `OutOfMemory`, which may come at any line.
+/// Why a line was not read: the first fault in this order, but for `OutOfMemory`, which may come at
+/// any line.
 #[derive(Clone, Copy, Debug, PartialEq, Eq, Drop, Error)]
 pub enum LineFault {
     /// The line comes after line 65,536.
@@ -41,14 +42,12 @@ pub enum LineFault {
     OutOfMemory,
 }
 
-/// The first wrong line of a script, and its first fault, which is never `OutOfMemory`.
+/// Why a script was not read. A call that reads one takes no memory, so it has no other fault.
 #[derive(Clone, Copy, Debug, PartialEq, Eq, Drop, Error)]
-#[error("line {number}: {fault}")]
-pub struct BadLine {
-    /// The number of the line, from 1.
-    pub number: u32,
-    /// What is wrong with it.
-    pub fault: LineFault,
+pub enum ScriptFault {
+    /// The first wrong line, numbered from 1, and its first fault, which is never `OutOfMemory`.
+    #[error("line {number}: {fault}")]
+    BadLine { number: u32, fault: LineFault },
 }
 
 impl LineFault {

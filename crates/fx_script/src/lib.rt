@@ -6,13 +6,14 @@ mod fault;
 mod line;
 mod pieces;
 mod print;
+mod sayable;
 mod script;
 mod sent;
 mod steps;
 mod word;
 
 pub use escape::push_escaped;
-pub use fault::{BadLine, LineFault};
+pub use fault::{LineFault, ScriptFault};
 pub use line::{Line, read_line};
 pub use print::print_line;
 pub use script::{SentLines, Task, Tasks, read_script};

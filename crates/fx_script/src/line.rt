@@ -2,7 +2,7 @@
 ghost use Rattle.std.specs.Prelude.{◌≡◌, IfOk, IsOk};
 ghost use Rattle.std.specs.List.{list_all};
 ghost use Rattle.std.specs.Char.{is_ascii};
-ghost use Rattle.fx_script.specs.Print.{KeepsRules};
+ghost use Rattle.fx_script.specs.Print.{LineKeepsRules};
 ghost use Rattle.fx_script.specs.Line.{IsLine, has_semicolon, sync_of, single_of, line_of, line_of_words};
 ghost use Rattle.fx_script.specs.Checked.{line_in, line_said};
 
@@ -94,11 +94,12 @@ pub(crate) fn copy_line(alloc: Global, words: &LineWords<'_>) -> Result<Line, Al
     }
 }
 
-/// What a line says, its line feed not among the bytes. Fails with the first fault, or where memory runs out.
+/// What a line says, its line feed not among the bytes. Fails with the first fault, or where memory
+/// runs out.
 /// Costs the bytes of the line.
 pub fn read_line(alloc: Global, bytes: &[u8]) -> Result<Line, LineFault>
     ensures line { IsLine result (line_of bytes.now) }
-    ensures rules { IfOk result KeepsRules }
+    ensures rules { IfOk result LineKeepsRules }
 {
     if !is_ascii(bytes) {
         return Err(LineFault::NotAscii);

@@ -7,7 +7,8 @@ ghost use Rattle.fx_script.specs.Cut.{cut, is_blank, lines_of};
 use memchr::memchr;
 use std::marker::Model;
 
-/// The pieces of a text between its bytes that are the separator: one more than there are such bytes.
+/// The pieces of a text between its bytes that are the separator: one more than there are such
+/// bytes.
 #[derive(Drop)]
 pub struct Pieces<'a> {
     rest: Option<&'a [u8]>,
@@ -35,7 +36,8 @@ impl<'a> Pieces<'a> {
         }
     }
 
-    /// The lines of a script: those that end in a line feed, and what comes after the last of them, if anything does.
+    /// The lines of a script: those that end in a line feed, and what comes after the last of them,
+    /// if anything does.
     pub fn lines(script: &'a [u8]) -> Pieces<'a>
         ensures { result ≡ lines_of script.now }
     {

@@ -1,7 +1,7 @@
 //! Lines, printed.
 ghost use Rattle.std.specs.Prelude.{◌≡◌, ◌++◌, Ok, IfOk, OnOk, string_bytes};
 ghost use Rattle.fx_script.specs.Line.{line_of};
-ghost use Rattle.fx_script.specs.Print.{names_text, path_text, step_words, line_text, spaced, KeepsRules};
+ghost use Rattle.fx_script.specs.Print.{names_text, path_text, step_words, line_text, spaced, LineKeepsRules};
 
 use crate::escape::push_escaped;
 use crate::line::Line;
@@ -26,7 +26,8 @@ fn push_path(text: &mut String, path: &Path) -> Result<(), AllocError>
 
 /// Appends a step.
 fn push_step(out: &mut String, step: &Step) -> Result<(), AllocError>
-    ensures { OnOk result (string_bytes out.new ≡ string_bytes out.old ++ spaced (step_words step.now)) }
+    ensures { OnOk result
+        (string_bytes out.new ≡ string_bytes out.old ++ spaced (step_words step.now)) }
 {
     match step {
         Step::Mkdir { path } => {
@@ -59,11 +60,11 @@ fn push_step(out: &mut String, step: &Step) -> Result<(), AllocError>
     }
 }
 
-/// The bytes of a line, with no line feed: its words with one space between them. A line that keeps the rules is read
-/// again from them. Costs the bytes of the line.
+/// The bytes of a line, with no line feed: its words with one space between them. A line that keeps
+/// the rules is read again from them. Costs the bytes of the line.
 pub fn print_line(alloc: Global, line: &Line) -> Result<Bytes, AllocError>
     ensures text { IfOk result (λ bytes. bytes ≡ line_text line.now) }
-    ensures reads { IfOk result (λ bytes. KeepsRules line.now → line_of bytes ≡ Ok line.now) }
+    ensures reads { IfOk result (λ bytes. LineKeepsRules line.now → line_of bytes ≡ Ok line.now) }
 {
     let mut text = String::new(alloc);
     match line {

@@ -2,10 +2,10 @@
 ghost use Rattle.std.specs.Prelude.{◌≡◌, ◌≢◌, ℕ, All, Err, IfOk, length};
 ghost use Rattle.std.specs.Iterator.{YieldsFirst, item_count};
 ghost use Rattle.fx_script.specs.declared.fault.LineFault.TheVariants.{OutOfMemory};
-ghost use Rattle.fx_script.specs.Print.{KeepsRules};
+ghost use Rattle.fx_script.specs.Print.{LineKeepsRules};
 ghost use Rattle.fx_script.specs.Script.{counted, script_of};
 
-use crate::fault::BadLine;
+use crate::fault::ScriptFault;
 use crate::line::Line;
 use crate::pieces::Pieces;
 use crate::sent::{SentLine, check_line, checked_line};
@@ -23,8 +23,8 @@ pub struct Task {
     pub line: Line,
 }
 
-/// A script each of whose lines was checked, which contracts see as the list of its tasks. It holds the bytes of the
-/// script alone: the task of a line is built where it is asked for.
+/// A script each of whose lines was checked, which contracts see as the list of its tasks. It holds
+/// the bytes of the script alone: the task of a line is built where it is asked for.
 #[derive(Debug, Drop)]
 pub struct Tasks {
     text: Bytes,
@@ -54,7 +54,8 @@ impl Tasks {
         self.count
     }
 
-    /// The lines, one after another. Going over them takes no memory, and costs the bytes of the script.
+    /// The lines, one after another. Going over them takes no memory, and costs the bytes of the
+    /// script.
     pub fn lines(&self) -> SentLines<'_>
         ensures { result ≡ self.now }
     {
@@ -105,29 +106,30 @@ impl<'a> Iterator for SentLines<'a> {
 }
 
 /// How many lines there are, each of which is right, or the first wrong one.
-fn check_lines(text: &[u8], many: bool) -> Result<u32, BadLine>
+fn check_lines(text: &[u8], many: bool) -> Result<u32, ScriptFault>
     ensures { result ≡ counted 0 (script_of many text.now) }
 {
     let mut count = 0;
     for line in Pieces::lines(text) {
         let number = count + 1;
         if let Err(fault) = check_line(many, number, line) {
-            return Err(BadLine { number, fault });
+            return Err(ScriptFault::BadLine { number, fault });
         }
         count = number;
     }
     Ok(count)
 }
 
-/// The lines of a script: one for each line feed, and one for what comes after the last of them, if anything does.
-/// The client of a line is 1, or where there are `many` its first word. Fails with the first wrong line and its first
-/// fault. Takes no memory; costs the bytes of the script.
-pub fn read_script(text: Bytes, many: bool) -> Result<Tasks, BadLine>
+/// The lines of a script: one for each line feed, and one for what comes after the last of them, if
+/// anything does.
+/// The client of a line is 1, or where there are `many` its first word. Fails with the first wrong
+/// line and its first fault. Takes no memory; costs the bytes of the script.
+pub fn read_script(text: Bytes, many: bool) -> Result<Tasks, ScriptFault>
     ensures tasks { result ≡ script_of many text }
-    ensures memory { (number : ℕ) → result ≢ Err (record { number = number; fault = OutOfMemory }) }
+    ensures memory { (number : ℕ) → result ≢ Err (ScriptFault.BadLine number OutOfMemory) }
 
     // Each line is one that the grammar has.
-    ensures rules { IfOk result (All (λ task. KeepsRules task.line)) }
+    ensures rules { IfOk result (All (λ task. LineKeepsRules task.line)) }
 {
     let count = check_lines(text.as_slice(), many)?;
     Ok(Tasks { text, many, count })

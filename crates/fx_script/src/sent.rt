@@ -1,6 +1,6 @@
 //! The lines of a script, with the clients that send them.
 ghost use Rattle.std.specs.Prelude.{◌≡◌, ◌<◌, ◌≤◌, IfOk, IsOk, Ok};
-ghost use Rattle.fx_script.specs.Print.{KeepsRules};
+ghost use Rattle.fx_script.specs.Print.{LineKeepsRules};
 ghost use Rattle.fx_script.specs.Script.{client_of, first_sender, sender_of, task_of};
 
 use crate::fault::LineFault;
@@ -34,7 +34,8 @@ impl<'a> Model for SentLine<'a> {
     ghost use Rattle.fx_script.specs.Checked.{line_read};
     ghost use Rattle.fx_script.specs.Sent.{IsSent};
 
-    ghost view = { λ l. record { client = l.client; number = l.number; line = line_read (line_of_words l.words) } };
+    ghost view = { λ l.
+        record { client = l.client; number = l.number; line = line_read (line_of_words l.words) } };
 
     ghost invariant = { λ l. IsSent l.client l.words };
 }
@@ -60,7 +61,7 @@ impl<'a> SentLine<'a> {
         ensures sync { self.now.line ≡ Line.Sync → IsOk result }
 
         // The line is one that the grammar has, and the client is one.
-        ensures rules { KeepsRules self.now.line }
+        ensures rules { LineKeepsRules self.now.line }
         ensures from { (0 < self.now.client) × (self.now.client ≤ MAX_CLIENT) }
     {
         let Ok(words) = check_words(self.words.again()) else {

@@ -166,7 +166,7 @@ fn told_script(alloc: Global, script: &[u8], many: bool) -> Result<Vec<u8>, Allo
                 text.push(b'|')?;
             }
         }
-        Err(BadLine { number, fault }) => {
+        Err(ScriptFault::BadLine { number, fault }) => {
             let end = format!(in alloc; "{} {}", number, fault.word())?;
             text.extend_from_slice(end.as_bytes())?;
         }
@@ -253,7 +253,8 @@ fn repeated(alloc: Global, bytes: &[u8], count: usize) -> Result<Vec<u8>, AllocE
     Ok(all)
 }
 
-/// Whether the line is right that makes a directory whose path begins so and goes on with bytes so many times over.
+/// Whether the line is right that makes a directory whose path begins so and goes on with bytes so
+/// many times over.
 fn is_right(alloc: Global, begin: &[u8], bytes: &[u8], count: usize) -> Result<bool, AllocError> {
     let mut line = Vec::from_slice(alloc, b"mkdir ".as_slice())?;
     line.extend_from_slice(begin)?;

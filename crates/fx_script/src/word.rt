@@ -4,7 +4,7 @@ ghost use Rattle.std.specs.List.{list_all};
 ghost use Rattle.std.specs.Char.{is_ascii_digit};
 ghost use Rattle.percent_encoding.specs.Percent as percent;
 ghost use Rattle.fx_item.specs.Name.{is_name};
-ghost use Rattle.fx_script.specs.Word.{is_decimal, number_of, text_of, path_of, few_names_of};
+ghost use Rattle.fx_script.specs.Word.{is_decimal, number_in, text_of, path_of, few_names_of};
 ghost use Rattle.fx_script.specs.Checked.{checked, names_in, path_in};
 ghost use Rattle.fx_script.specs.Cut.{cut};
 
@@ -34,7 +34,7 @@ fn is_decimal(word: &[u8]) -> bool
 
 /// The number that the word is.
 pub fn read_number(word: &[u8]) -> Result<u32, LineFault>
-    ensures { result ≡ number_of word.now }
+    ensures { result ≡ number_in word.now }
 {
     if !is_decimal(word) {
         return Err(LineFault::BadNumber);

@@ -1,4 +1,4 @@
-use Rattle.std.proofs.Common.{◌≡◌, List, ℕ, sym, ap, ◌∙◌, subst, rules}
+use Rattle.std.proofs.Common.{◌≡◌, List, ℕ, sym, ◌∙◌, subst, rules}
 use Rattle.std.specs.Prelude.{Ok}
 use Rattle.fx_script.specs.Script.{script_of, tasks_read, counted}
 use Rattle.fx_script.proofs.Rules.{script_rules}

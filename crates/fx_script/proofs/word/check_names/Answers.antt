@@ -1,4 +1,4 @@
-use Rattle.std.proofs.Common.{◌≡◌, ◌∙◌, arith, List, ℕ, sym, subst, ap, length, rules}
+use Rattle.std.proofs.Common.{◌≡◌, arith, List, ℕ, sym, subst, ap, length, rules}
 use Rattle.fx_script.specs.Cut.{cut}
 use Rattle.fx_script.specs.Word.{names_of}
 use Rattle.fx_script.specs.Checked.{checked, names_in}
