@@ -4,7 +4,8 @@ use Rattle.fx_disk.specs.Record.{Call, DiskRecord}
 
 -- What two records have to do with each other, where the disk tells: it goes on telling, and a disk
 -- that does not tell never begins to.
-abbrev pub BothTell : (DiskRecord → DiskRecord → Type 0) → Option DiskRecord → Option DiskRecord → Type 0
+abbrev pub BothTell : (DiskRecord → DiskRecord → Type 0) → Option DiskRecord → Option DiskRecord →
+    Type 0
 BothTell P None after = after ≡ None
 BothTell P (Some before) after = (now : DiskRecord) × (after ≡ Some now) × P before now
 

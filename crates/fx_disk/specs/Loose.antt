@@ -55,7 +55,8 @@ IsLooseAt calls b m = IsLoose calls b m (m + 1)
 abbrev pub IsLastBytes : DiskRecord → ℕ → ℕ → List ℕ → Type 0
 IsLastBytes r b n bytes =
     ((k : ℕ) × IsLastWrite r.calls b n k × (bytes ≡ bytes_of (call_at r.calls k)))
-    ⊎ (((k : ℕ) → k < n → IsWriteOf b (call_at r.calls k) → ⊥) × (bytes ≡ slice_index_or r.entry b []))
+    ⊎ (((k : ℕ) → k < n → IsWriteOf b (call_at r.calls k) → ⊥) ×
+    (bytes ≡ slice_index_or r.entry b []))
 
 -- The bytes of every write of the block among the first `n` calls, in the order of the calls.
 pub record AreWrites (calls : List Call) (b n : ℕ) (written : List (List ℕ)) : Type 0 where
@@ -69,4 +70,5 @@ pub record AreWrites (calls : List Call) (b n : ℕ) (written : List (List ℕ))
 pub record IsLeft (r : DiskRecord) (m : ℕ) (image : List (List ℕ)) : Type 0 where
   pub size : length image ≡ length r.entry
   pub blocks : (b : ℕ) → b < length r.entry → IsBlock (slice_index_or image b [])
-  pub kept : (b : ℕ) → b < length r.entry → (IsLooseAt r.calls b m → ⊥) → IsLastBytes r b (m + 1) (slice_index_or image b [])
+  pub kept : (b : ℕ) → b < length r.entry → (IsLooseAt r.calls b m → ⊥) →
+      IsLastBytes r b (m + 1) (slice_index_or image b [])

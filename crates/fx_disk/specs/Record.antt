@@ -34,13 +34,28 @@ candidates cell = cell.settled ∷ cell.since
 
 -- A block that was not written yet.
 abbrev pub fresh_cell : List ℕ → Cell
-fresh_cell bytes = record { entry = bytes; bytes = bytes; failed = false; loose = false; settled = bytes; since = []; written = [] }
+fresh_cell bytes = record {
+  entry = bytes;
+  bytes = bytes;
+  failed = false;
+  loose = false;
+  settled = bytes;
+  since = [];
+  written = [];
+}
 
 abbrev pub settled_cell : Cell → Cell
 settled_cell cell = record cell { failed = false; loose = false; settled = cell.bytes; since = [] }
 
 abbrev pub written_cell : List ℕ → Bool → Cell → Cell
-written_cell bytes ok cell = record cell { bytes = bytes; failed = not ok; loose = true; since = cell.since ++ bytes ∷ []; written = cell.written ++ bytes ∷ [] }
+written_cell bytes ok cell =
+    record cell {
+      bytes = bytes;
+      failed = not ok;
+      loose = true;
+      since = cell.since ++ bytes ∷ [];
+      written = cell.written ++ bytes ∷ [];
+    }
 
 -- A successful flush settles a block whose last write was good.
 abbrev pub flushed_cell : Bool → Cell → Cell

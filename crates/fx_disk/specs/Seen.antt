@@ -63,12 +63,13 @@ pub record HasRead (before after : DiskSeen) (good : Bool) : Type 0 where
   pub last_made : after.last_made ≡ before.last_made
 
 -- One write, made or not.
-pub record HasWritten (before after : DiskSeen) (at : ℕ) (bytes : List ℕ) (good : Bool) : Type 0 where
-  pub made : MadeOrNot before.calls after.calls after.last_made good
-      (Writes before.told after.told at bytes good) (after.told ≡ before.told)
-  pub faults : CountsFault good before.faults after.faults
-  pub size : after.size ≡ before.size
-  pub reads : after.reads ≡ before.reads
+pub record HasWritten (before after : DiskSeen) (at : ℕ) (bytes : List ℕ) (good : Bool) : Type 0
+  where
+    pub made : MadeOrNot before.calls after.calls after.last_made good
+        (Writes before.told after.told at bytes good) (after.told ≡ before.told)
+    pub faults : CountsFault good before.faults after.faults
+    pub size : after.size ≡ before.size
+    pub reads : after.reads ≡ before.reads
 
 -- One flush, made or not.
 pub record HasFlushed (before after : DiskSeen) (good : Bool) : Type 0 where

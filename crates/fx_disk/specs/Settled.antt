@@ -17,7 +17,8 @@ WasSettled start r = (b : ℕ) → b < length r.entry → (cell_after r start b)
 
 -- The disk reads as `base` but for the block `at`, no other block is loose, and what a stop that tears
 -- no block may leave in it is one of `values`.
-pub record IsChangedAt (base : List (List ℕ)) (at : ℕ) (values : List (List ℕ)) (r : DiskRecord) : Type 0 where
+pub record IsChangedAt (base : List (List ℕ)) (at : ℕ) (values : List (List ℕ))
+    (r : DiskRecord) : Type 0 where
   pub reads : r.contents ≡ slice_set base at (slice_index_or r.contents at [])
   pub others : (b : ℕ) → b < length r.entry → (at ≡ b → ⊥) → (cell_now r b).loose ≡ false
   pub held : (value : List ℕ) → Contains (candidates (cell_now r at)) value → Contains values value

@@ -5,7 +5,8 @@ use Rattle.fx_disk.specs.Record.{Call, Write, Flush, DiskRecord, IsBlock, call_a
 
 -- One more call, after which the blocks read as `contents`.
 abbrev pub with_call : DiskRecord → Call → List (List ℕ) → DiskRecord
-with_call r call contents = record { entry = r.entry; calls = r.calls ++ call ∷ []; contents = contents }
+with_call r call contents =
+    record { entry = r.entry; calls = r.calls ++ call ∷ []; contents = contents }
 
 abbrev pub with_write : DiskRecord → ℕ → List ℕ → Bool → List ℕ → DiskRecord
 with_write r at bytes ok held = with_call r (Write at bytes ok) (slice_set r.contents at held)
@@ -21,7 +22,8 @@ pub record Holds (bytes : List ℕ) (ok : Bool) (held : List ℕ) : Type 0 where
 -- What is told before and after a write that was made.
 abbrev pub Writes : Option DiskRecord → Option DiskRecord → ℕ → List ℕ → Bool → Type 0
 Writes None after at bytes ok = after ≡ None
-Writes (Some r) after at bytes ok = (held : List ℕ) × Holds bytes ok held × (after ≡ Some (with_write r at bytes ok held))
+Writes (Some r) after at bytes ok = (held : List ℕ) × Holds bytes ok held ×
+    (after ≡ Some (with_write r at bytes ok held))
 
 -- What is told before and after a flush that was made.
 abbrev pub Flushes : Option DiskRecord → Option DiskRecord → Bool → Type 0
@@ -44,7 +46,8 @@ pub record IsNotMade (before after : ℕ) (made ok : Bool) (keeps : Type 0) : Ty
 
 -- A write or a flush, by the count of calls before and after it, whether it was made, and its answer.
 abbrev pub MadeOrNot : ℕ → ℕ → Bool → Bool → Type 0 → Type 0 → Type 0
-MadeOrNot before after made ok does keeps = IsMade before after made does ⊎ IsNotMade before after made ok keeps
+MadeOrNot before after made ok does keeps = IsMade before after made does ⊎
+    IsNotMade before after made ok keeps
 
 -- A call of a disk of `n` blocks.
 abbrev pub IsCallOf : ℕ → Call → Type 0
@@ -60,7 +63,8 @@ pub record IsRecordOf (size calls : ℕ) (r : DiskRecord) : Type 0 where
   pub each : (k : ℕ) → k < calls → IsCallOf size (call_at r.calls k)
   pub contents_size : length r.contents ≡ size
   pub blocks : (b : ℕ) → b < size → IsBlock (slice_index_or r.contents b [])
-  pub reads : (b : ℕ) → b < size → (cell_now r b).failed ≡ false → slice_index_or r.contents b [] ≡ (cell_now r b).bytes
+  pub reads : (b : ℕ) → b < size → (cell_now r b).failed ≡ false →
+      slice_index_or r.contents b [] ≡ (cell_now r b).bytes
 
 pub IsCallOf-prop : (size : ℕ) (call : Call) → IsProp (IsCallOf size call)
 IsCallOf-prop size (Write at bytes ok) = hlevel props

@@ -3,7 +3,7 @@ use Rattle.std.proofs.Common.{◌≡◌, ◌≢◌, ℕ, suc, zero, ◌+◌, ◌
 use Rattle.std.proofs.lemmas.Bool.{cases_lt}
 use Rattle.std.proofs.lemmas.List.{take_all, take-take, get_or_append_left, get_or_push, get_or-drop, get_or-take, length-append, length-drop, length-take, length_push}
 use Rattle.fx_pool.specs.Region.{Region, Run, IsSound, IsOut, bytes_of}
-use Rattle.fx_journal.specs.Ring.{run_at, KeepsBuffers, KeepsOthers, IsOther, blocks_out}
+use Rattle.fx_journal.specs.Ring.{RingState, IsRing, run_at, KeepsBuffers, KeepsOthers, KeepsRing, IsOther, blocks_out}
 
 -- one more buffer
 at_front : (runs : List Run) (b : Run) (i : ℕ) → i < length runs → run_at (runs ++ b ∷ []) i ≡ run_at runs i
@@ -79,6 +79,10 @@ other-take own k run h = λ i lt e. h i (omega (arith, length-take k own)) (e �
 
 pub others-none : (own : List Run) (p : Region) → KeepsOthers own p p
 others-none own p = record { order = refl; out = λ run out other. out; bytes = λ run out other. refl }
+
+-- a call that changes nothing
+pub keeps-same : (ring : RingState) (p : Region) → IsRing ring → KeepsBuffers ring.buffers p → KeepsRing ring ring p p
+keeps-same ring p is buffers = record { size = refl; epoch = refl; ring = is; buffers = buffers; others = others-none ring.buffers p }
 
 others-then : (own later : List Run) (a b c : Region) → ((run : Run) → IsOther own run → IsOther later run) → KeepsOthers own a b → KeepsOthers later b c → KeepsOthers own a c
 others-then own later a b c less first second = record {

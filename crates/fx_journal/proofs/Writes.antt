@@ -2,8 +2,7 @@
 use Rattle.std.proofs.Common.{◌≡◌, ℕ, suc, zero, ◌+◌, ◌-◌, ◌<◌, ◌≤◌, Bool, true, false, List, [], ◌∷◌, ◌++◌, length, drop, Option, Some, None, refl, sym, ◌∙◌, subst, ap, arith}
 use Rattle.std.specs.Prelude.{nat_lt, ◌&&◌, if◌then◌else◌}
 use Rattle.std.proofs.lemmas.List.{length-drop}
-use Rattle.fx_disk.specs.Record.{DiskRecord}
-use Rattle.fx_disk.specs.Steps.{MadeOrNot, Writes}
+use Rattle.fx_disk.specs.Seen.{DiskSeen, HasWritten}
 use Rattle.fx_pool.specs.Region.{Region, Run, bytes_of}
 use Rattle.fx_journal.specs.Ring.{RingState, Queued, IsRing, HoldsQueue, AreHeld, run_at, next_block, without_first}
 use Rattle.fx_journal.specs.Writing.{first_bytes}
@@ -23,10 +22,10 @@ held-first p epoch (run ∷ runs) (q ∷ qs) some h = h.0.bytes
 pub first-written : (ring : RingState) (p : Region) (before s : ℕ) (queue : List Queued) → next_block ring before ≡ Some s → HoldsQueue ring p queue → bytes_of p (run_at ring.buffers 0) ≡ first_bytes ring.epoch queue
 first-written ring p before s queue e h = held-first p ring.epoch ring.buffers queue (omega (arith, h.count, next-waits ring before s e)) h.held
 
-pub made-as : (before after : ℕ) (last ok : Bool) (told now : Option DiskRecord) (at place : ℕ) (bytes block : List ℕ) (keeps : Type 0) → at ≡ place → bytes ≡ block → MadeOrNot before after last ok (Writes told now at bytes ok) keeps → MadeOrNot before after last ok (Writes told now place block ok) keeps
-made-as before after last ok told now at place bytes block keeps e f h =
-    subst (λ (b : List ℕ). MadeOrNot before after last ok (Writes told now place b ok) keeps) f
-    (subst (λ (a : ℕ). MadeOrNot before after last ok (Writes told now a bytes ok) keeps) e h)
+pub written-as : (before after : DiskSeen) (ok : Bool) (at place : ℕ) (bytes block : List ℕ) → at ≡ place → bytes ≡ block → HasWritten before after at bytes ok → HasWritten before after place block ok
+written-as before after ok at place bytes block e f h =
+    subst (λ (b : List ℕ). HasWritten before after place b ok) f
+    (subst (λ (a : ℕ). HasWritten before after a bytes ok) e h)
 
 pub ring-without_first : (ring : RingState) → IsRing ring → 0 < ring.queued → IsRing (without_first ring)
 ring-without_first ring h some = record {

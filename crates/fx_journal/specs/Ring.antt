@@ -145,6 +145,15 @@ pub record KeepsOthers (own : List Run) (old new : Region) : Type 0 where
   pub out : (run : Run) → IsOut old run → IsOther own run → IsOut new run
   pub bytes : (run : Run) → IsOut old run → IsOther own run → bytes_of new run ≡ bytes_of old run
 
+-- What every call of a ring keeps: its size and its epoch, that it is a ring whose buffers are its own,
+-- and the buffers of others.
+pub record KeepsRing (old new : RingState) (before after : Region) : Type 0 where
+  pub size : new.size ≡ old.size
+  pub epoch : new.epoch ≡ old.epoch
+  pub ring : IsRing new
+  pub buffers : KeepsBuffers new.buffers after
+  pub others : KeepsOthers old.buffers before after
+
 -- how many blocks lie in buffers that are out
 abbrev pub run_blocks : Option ℕ → ℕ
 run_blocks None = 0

@@ -1,7 +1,6 @@
 //! The ring: its reservations, and the queue of closed blocks that are not written yet.
 ghost use Rattle.std.specs.Prelude.{◌≡◌, ◌≢◌, ◌↔◌, ℕ, ◌+◌, ◌-◌, ◌*◌, ◌/◌, ◌%◌, ◌^◌, ◌<◌, ◌≤◌, min, List, [], ◌∷◌, ◌++◌, length, take, drop, Some, None, Ok, Err, IsErr, IfOk, IfErr, OnOk, OnErr, is_ok};
-ghost use Rattle.fx_base.specs.Causes.{Rose};
-ghost use Rattle.fx_disk.specs.Steps.{Writes, MadeOrNot};
+ghost use Rattle.fx_disk.specs.Seen.{HasWritten, HasCalled};
 ghost use Rattle.fx_pool.specs.Region.{IsSound};
 ghost use Rattle.fx_journal.specs.Ring.{begun, want};
 
@@ -74,7 +73,7 @@ fn begun_of(text: &[u8]) -> u32
 }
 
 impl Ring {
-    ghost use Rattle.fx_journal.specs.Ring.{RingState, Queued, IsRing, KeepsBuffers, KeepsOthers, HoldsQueue, Appended, blocks_out, want, live, begun, number, next_place, place_after, closes, unfinished, padded, padding, next_block, without_first, without_before, freed, freed_queued};
+    ghost use Rattle.fx_journal.specs.Ring.{RingState, Queued, IsRing, KeepsBuffers, KeepsOthers, KeepsRing, HoldsQueue, Appended, blocks_out, want, live, begun, number, next_place, place_after, closes, unfinished, padded, padding, next_block, without_first, without_before, freed, freed_queued};
     ghost use Rattle.fx_journal.specs.Writing.{block_at, first_bytes, wrote, counts};
 
     /// The ring of `ring` blocks whose stream begins at `start` and goes on at `next`, which is the place
@@ -95,7 +94,17 @@ impl Ring {
         requires next { next.sequence ≡ start.sequence + closed }
         requires epoch { 1 ≤ epoch }
         ensures ring { IfOk result IsRing }
-        ensures state { IfOk result (λ r. r ≡ record { start = start; size = ring; epoch = epoch; closed = closed; chain = next.chain; text = []; promised = 0; queued = 0; buffers = [] }) }
+        ensures state { IfOk result (λ r. r ≡ record {
+          start = start;
+          size = ring;
+          epoch = epoch;
+          closed = closed;
+          chain = next.chain;
+          text = [];
+          promised = 0;
+          queued = 0;
+          buffers = [];
+        }) }
     {
         Ok(Ring {
             start,
@@ -129,17 +138,18 @@ impl Ring {
     pub fn reserve(&mut self, pool: &mut Pool, bytes: u32) -> Result<(), Full>
         requires buffers { KeepsBuffers self.old.buffers pool.old }
         requires blocks { blocks_out pool.old + want bytes ≤ 2 ^ pool.old.order }
-        ensures full { IsErr result ↔ (self.old.size < live self.old + self.old.promised + want bytes + 1) }
+        ensures full { IsErr result
+            ↔ (self.old.size < live self.old + self.old.promised + want bytes + 1) }
         ensures counts { IfErr result (λ full. full ≡ counts self.old bytes) }
-        ensures refused { OnErr result (self.new ≡ self.old) }
-        ensures pool_refused { OnErr result (pool.new ≡ pool.old) }
-
-        ensures promised { OnOk result (self.new ≡ record self.old { promised = self.old.promised + want bytes; buffers = self.new.buffers }) }
+        ensures refused { OnErr result ((self.new ≡ self.old) × (pool.new ≡ pool.old)) }
+        ensures promised { OnOk result (self.new ≡ record self.old {
+          promised = self.old.promised + want bytes;
+          buffers = self.new.buffers;
+        }) }
         ensures taken { OnOk result (blocks_out pool.new ≡ blocks_out pool.old + want bytes) }
-        ensures ring { IsRing self.new }
-        ensures buffers { KeepsBuffers self.new.buffers pool.new }
-        ensures queue { (queue : List Queued) → HoldsQueue self.old pool.old queue → HoldsQueue self.new pool.new queue }
-        ensures others { KeepsOthers self.old.buffers pool.old pool.new }
+        ensures queue { (queue : List Queued) → HoldsQueue self.old pool.old queue
+            → HoldsQueue self.new pool.new queue }
+        ensures kept { KeepsRing self.old self.new pool.old pool.new }
     {
         let want = want_of(bytes as usize) as u32;
         let live = self.live();
@@ -160,12 +170,14 @@ impl Ring {
     pub fn cancel(&mut self, pool: &mut Pool, bytes: u32)
         requires promised { want bytes ≤ self.old.promised }
         requires buffers { KeepsBuffers self.old.buffers pool.old }
-        ensures promised { self.new ≡ record self.old { promised = self.old.promised - want bytes; buffers = self.new.buffers } }
+        ensures promised { self.new ≡ record self.old {
+          promised = self.old.promised - want bytes;
+          buffers = self.new.buffers;
+        } }
         ensures given { blocks_out pool.new + want bytes ≡ blocks_out pool.old }
-        ensures ring { IsRing self.new }
-        ensures buffers { KeepsBuffers self.new.buffers pool.new }
-        ensures queue { (queue : List Queued) → HoldsQueue self.old pool.old queue → HoldsQueue self.new pool.new queue }
-        ensures others { KeepsOthers self.old.buffers pool.old pool.new }
+        ensures queue { (queue : List Queued) → HoldsQueue self.old pool.old queue
+            → HoldsQueue self.new pool.new queue }
+        ensures kept { KeepsRing self.old self.new pool.old pool.new }
     {
         let want = want_of(bytes as usize) as u32;
         self.give_promised(pool, want);
@@ -175,12 +187,14 @@ impl Ring {
     fn give_promised(&mut self, pool: &mut Pool, count: u32)
         requires promised { count ≤ self.old.promised }
         requires buffers { KeepsBuffers self.old.buffers pool.old }
-        ensures promised { self.new ≡ record self.old { promised = self.old.promised - count; buffers = self.new.buffers } }
+        ensures promised { self.new ≡ record self.old {
+          promised = self.old.promised - count;
+          buffers = self.new.buffers;
+        } }
         ensures given { blocks_out pool.new + count ≡ blocks_out pool.old }
-        ensures ring { IsRing self.new }
-        ensures buffers { KeepsBuffers self.new.buffers pool.new }
-        ensures queue { (queue : List Queued) → HoldsQueue self.old pool.old queue → HoldsQueue self.new pool.new queue }
-        ensures others { KeepsOthers self.old.buffers pool.old pool.new }
+        ensures queue { (queue : List Queued) → HoldsQueue self.old pool.old queue
+            → HoldsQueue self.new pool.new queue }
+        ensures kept { KeepsRing self.old self.new pool.old pool.new }
     {
         give_last(pool, &mut self.buffers, count);
         self.promised -= count;
@@ -192,17 +206,16 @@ impl Ring {
     pub fn append(&mut self, pool: &mut Pool, rec: &[u8])
         requires promised { want (length rec.now) ≤ self.old.promised }
         requires buffers { KeepsBuffers self.old.buffers pool.old }
-        ensures queue { (queue : List Queued) → HoldsQueue self.old pool.old queue → Appended self.old self.new pool.new queue rec.now }
+        ensures queue { (queue : List Queued) → HoldsQueue self.old pool.old queue
+            → Appended self.old self.new pool.new queue rec.now }
         ensures promised { self.new.promised ≡ self.old.promised - want (length rec.now) }
-        ensures counted { RECORD_BYTES * self.new.closed + length self.new.text ≡ RECORD_BYTES * self.old.closed + length self.old.text + length rec.now }
+        ensures counted { RECORD_BYTES * self.new.closed + length self.new.text
+            ≡ RECORD_BYTES * self.old.closed + length self.old.text + length rec.now }
         ensures queued { self.new.queued + self.old.closed ≡ self.old.queued + self.new.closed }
         ensures start { self.new.start ≡ self.old.start }
-        ensures size { self.new.size ≡ self.old.size }
-        ensures epoch { self.new.epoch ≡ self.old.epoch }
-        ensures ring { IsRing self.new }
-        ensures buffers { KeepsBuffers self.new.buffers pool.new }
-        ensures given { blocks_out pool.new + length self.old.buffers ≡ blocks_out pool.old + length self.new.buffers }
-        ensures others { KeepsOthers self.old.buffers pool.old pool.new }
+        ensures given { blocks_out pool.new + length self.old.buffers
+            ≡ blocks_out pool.old + length self.new.buffers }
+        ensures kept { KeepsRing self.old self.new pool.old pool.new }
     {
         let left = self.promised - want_of(rec.len()) as u32;
         let mut rest = rec;
@@ -223,10 +236,9 @@ impl Ring {
         requires buffers { KeepsBuffers self.old.buffers pool.old }
         ensures closed { self.new ≡ closes self.old piece.now }
         ensures out { pool.new.out ≡ pool.old.out }
-        ensures ring { IsRing self.new }
-        ensures buffers { KeepsBuffers self.new.buffers pool.new }
-        ensures queue { (queue : List Queued) → HoldsQueue self.old pool.old queue → HoldsQueue self.new pool.new (queue ++ unfinished self.old piece.now ∷ []) }
-        ensures others { KeepsOthers self.old.buffers pool.old pool.new }
+        ensures queue { (queue : List Queued) → HoldsQueue self.old pool.old queue
+            → HoldsQueue self.new pool.new (queue ++ unfinished self.old piece.now ∷ []) }
+        ensures kept { KeepsRing self.old self.new pool.old pool.new }
     {
         let sequence = self.next_sequence();
         self.promised = self.promised + begun_of(&self.text) - 1;
@@ -246,7 +258,10 @@ impl Ring {
     fn begin_with(&mut self, piece: &[u8])
         requires room { length self.old.text + length piece.now < RECORD_BYTES }
         requires promised { begun piece.now ≤ begun self.old.text + self.old.promised }
-        ensures begun { self.new ≡ record self.old { text = self.old.text ++ piece.now; promised = self.old.promised + begun self.old.text - begun (self.old.text ++ piece.now) } }
+        ensures begun { self.new ≡ record self.old {
+          text = self.old.text ++ piece.now;
+          promised = self.old.promised + begun self.old.text - begun (self.old.text ++ piece.now);
+        } }
         ensures ring { IsRing self.new }
     {
         let before = self.promised + begun_of(&self.text);
@@ -270,11 +285,10 @@ impl Ring {
         ensures padded { self.new ≡ padded self.old }
         ensures live { live self.new ≡ live self.old }
         ensures place { result ≡ place_after self.new }
-        ensures queue { (queue : List Queued) → HoldsQueue self.old pool.old queue → HoldsQueue self.new pool.new (queue ++ padding self.old) }
+        ensures queue { (queue : List Queued) → HoldsQueue self.old pool.old queue
+            → HoldsQueue self.new pool.new (queue ++ padding self.old) }
         ensures out { pool.new.out ≡ pool.old.out }
-        ensures ring { IsRing self.new }
-        ensures buffers { KeepsBuffers self.new.buffers pool.new }
-        ensures others { KeepsOthers self.old.buffers pool.old pool.new }
+        ensures kept { KeepsRing self.old self.new pool.old pool.new }
     {
         if !self.text.is_empty() {
             self.close_with(pool, &[]);
@@ -307,35 +321,28 @@ impl Ring {
         disk: &mut D,
         before: u64,
     ) -> Result<Wrote, DiskFailed>
-        requires disk { self.old.size + 2 ≤ D.size disk.old }
+        requires disk { self.old.size + 2 ≤ (D.seen disk.old).size }
         requires buffers { KeepsBuffers self.old.buffers pool.old }
         ensures answer { IfOk result (λ w. w ≡ wrote (next_block self.old before)) }
-        ensures nothing { next_block self.old before ≡ None → result ≡ Ok (wrote None) }
-        ensures nothing_ring { next_block self.old before ≡ None → self.new ≡ self.old }
-        ensures nothing_pool { next_block self.old before ≡ None → pool.new ≡ pool.old }
-        ensures nothing_disk { next_block self.old before ≡ None → disk.new ≡ disk.old }
+        ensures nothing { next_block self.old before ≡ None → (result ≡ Ok (wrote None))
+            × (self.new ≡ self.old) × (pool.new ≡ pool.old) × (disk.new ≡ disk.old) }
 
         // Where there is such a block, its bytes are written to its place by one call.
-        ensures made { (sequence : ℕ) (queue : List Queued) → next_block self.old before ≡ Some sequence → HoldsQueue self.old pool.old queue →
-            MadeOrNot (D.calls disk.old) (D.calls disk.new) (D.last_made disk.new) (is_ok result)
-            (Writes (D.told disk.old) (D.told disk.new) (block_at self.old sequence) (first_bytes self.old.epoch queue) (is_ok result)) (D.told disk.new ≡ D.told disk.old) }
-        ensures written { (sequence : ℕ) → next_block self.old before ≡ Some sequence → OnOk result (self.new ≡ without_first self.old) }
-        ensures queue { (sequence : ℕ) (queue : List Queued) → next_block self.old before ≡ Some sequence → HoldsQueue self.old pool.old queue → OnOk result (HoldsQueue self.new pool.new (drop 1 queue)) }
-        ensures given { blocks_out pool.new + length self.old.buffers ≡ blocks_out pool.old + length self.new.buffers }
-        ensures ring_size { self.new.size ≡ self.old.size }
+        ensures made { (sequence : ℕ) (queue : List Queued) → next_block self.old before ≡ Some sequence
+            → HoldsQueue self.old pool.old queue → HasWritten (D.seen disk.old) (D.seen disk.new)
+            (block_at self.old sequence) (first_bytes self.old.epoch queue) (is_ok result) }
+        ensures written { (sequence : ℕ) → next_block self.old before ≡ Some sequence
+            → OnOk result (self.new ≡ without_first self.old) }
+        ensures queue { (sequence : ℕ) (queue : List Queued) → next_block self.old before ≡ Some sequence
+            → HoldsQueue self.old pool.old queue → OnOk result (HoldsQueue self.new pool.new (drop 1 queue)) }
 
         // A fault is the disk's, and leaves all else as it was.
-        ensures fault { OnErr result (Rose (D.faults disk.old) (D.faults disk.new)) }
-        ensures unfailed { OnOk result (D.faults disk.new ≡ D.faults disk.old) }
-        ensures fault_ring { OnErr result (self.new ≡ self.old) }
-        ensures fault_pool { OnErr result (pool.new ≡ pool.old) }
-
-        ensures size { D.size disk.new ≡ D.size disk.old }
-        ensures reads { D.reads disk.new ≡ D.reads disk.old }
-        ensures faults { D.faults disk.old ≤ D.faults disk.new }
-        ensures ring { IsRing self.new }
-        ensures buffers { KeepsBuffers self.new.buffers pool.new }
-        ensures others { KeepsOthers self.old.buffers pool.old pool.new }
+        ensures fault { OnErr result ((self.new ≡ self.old) × (pool.new ≡ pool.old)) }
+        ensures given { blocks_out pool.new + length self.old.buffers
+            ≡ blocks_out pool.old + length self.new.buffers }
+        ensures kept { KeepsRing self.old self.new pool.old pool.new }
+        ensures disk { HasCalled (D.seen disk.old) (D.seen disk.new) (is_ok result) }
+        ensures reads { (D.seen disk.new).reads ≡ (D.seen disk.old).reads }
     {
         let Some(sequence) = self.next_to_write(before) else {
             return Ok(Wrote::Nothing);
@@ -361,10 +368,9 @@ impl Ring {
         requires buffers { KeepsBuffers self.old.buffers pool.old }
         ensures freed { self.new ≡ without_before self.old sequence }
         ensures given { blocks_out pool.new + freed_queued self.old sequence ≡ blocks_out pool.old }
-        ensures ring { IsRing self.new }
-        ensures buffers { KeepsBuffers self.new.buffers pool.new }
-        ensures queue { (queue : List Queued) → HoldsQueue self.old pool.old queue → HoldsQueue self.new pool.new (drop (freed_queued self.old sequence) queue) }
-        ensures others { KeepsOthers self.old.buffers pool.old pool.new }
+        ensures queue { (queue : List Queued) → HoldsQueue self.old pool.old queue
+            → HoldsQueue self.new pool.new (drop (freed_queued self.old sequence) queue) }
+        ensures kept { KeepsRing self.old self.new pool.old pool.new }
     {
         let freed = (sequence - self.start.sequence) as u32;
         self.start.sequence = sequence;

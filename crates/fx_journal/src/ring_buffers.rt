@@ -1,9 +1,8 @@
 //! The buffers of the ring: one block each, in one queue.
-ghost use Rattle.std.specs.Prelude.{OnOk, OnErr, is_ok, ◌≡◌, ◌≢◌, ℕ, ◌+◌, ◌-◌, ◌*◌, ◌^◌, ◌<◌, ◌≤◌, List, ◌++◌, ◌∷◌, length, take, drop};
+ghost use Rattle.std.specs.Prelude.{is_ok, ◌≡◌, ◌≢◌, ℕ, ◌+◌, ◌-◌, ◌*◌, ◌^◌, ◌<◌, ◌≤◌, List, ◌++◌, ◌∷◌, length, take, drop};
 ghost use Rattle.std.specs.VecDeque.{deque_len, deque_capacity};
 ghost use Rattle.fx_sum.specs.Checksum.{fletch};
-ghost use Rattle.fx_base.specs.Causes.{Rose};
-ghost use Rattle.fx_disk.specs.Steps.{Writes, MadeOrNot};
+ghost use Rattle.fx_disk.specs.Seen.{HasWritten};
 ghost use Rattle.fx_jblock.specs.Block.{body, Holds};
 ghost use Rattle.fx_pool.specs.Region.{Run, IsOut, IsSound, bytes_of};
 ghost use Rattle.fx_journal.specs.Ring.{KeepsBuffers, KeepsOthers, IsOther, blocks_out};
@@ -135,7 +134,8 @@ pub(crate) fn pack_into(
     requires begun { 1 ≤ epoch }
     ensures chain { result ≡ fletch chain (body sequence epoch text.now) }
     ensures holds { Holds (bytes_of pool.new buffer.now) sequence epoch chain text.now }
-    ensures others { (run : Run) → IsOut pool.old run → run.start ≢ buffer.now.start → bytes_of pool.new run ≡ bytes_of pool.old run }
+    ensures others { (run : Run) → IsOut pool.old run → run.start ≢ buffer.now.start
+        → bytes_of pool.new run ≡ bytes_of pool.old run }
     ensures out { pool.new.out ≡ pool.old.out }
     ensures order { pool.new.order ≡ pool.old.order }
     ensures sound { IsSound pool.new }
@@ -156,14 +156,9 @@ pub(crate) fn write_buffer<D: Disk>(
 ) -> Result<(), DiskFailed>
     requires out { IsOut pool.now buffer.now }
     requires single { buffer.now.order ≡ 0 }
-    requires within { at < D.size disk.old }
-    ensures made { MadeOrNot (D.calls disk.old) (D.calls disk.new) (D.last_made disk.new) (is_ok result)
-        (Writes (D.told disk.old) (D.told disk.new) at (bytes_of pool.now buffer.now) (is_ok result)) (D.told disk.new ≡ D.told disk.old) }
-    ensures fault { OnErr result (Rose (D.faults disk.old) (D.faults disk.new)) }
-    ensures unfailed { OnOk result (D.faults disk.new ≡ D.faults disk.old) }
-    ensures size { D.size disk.new ≡ D.size disk.old }
-    ensures reads { D.reads disk.new ≡ D.reads disk.old }
-    ensures faults { D.faults disk.old ≤ D.faults disk.new }
+    requires within { at < (D.seen disk.old).size }
+    ensures written { HasWritten (D.seen disk.old) (D.seen disk.new)
+        at (bytes_of pool.now buffer.now) (is_ok result) }
 {
     let Some(block) = pool.bytes(buffer).as_array::<4096>() else {
         unreachable!();

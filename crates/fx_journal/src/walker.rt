@@ -2,6 +2,7 @@
 ghost use Rattle.std.specs.Prelude.{◌≡◌, ◌≢◌, ◌+◌, ◌-◌, ◌<◌, ◌≤◌, ◌^◌, min, [], ◌∷◌, ◌++◌, length, IfOk, OnOk, IsErrOf, Err};
 ghost use Rattle.std.specs.Option.{IfSome};
 ghost use Rattle.fx_base.specs.Causes.{Rose};
+ghost use Rattle.fx_disk.specs.Seen.{HasOnlyRead};
 ghost use Rattle.fx_journal.specs.Stream.{IsStream, IsSeries, IsNext};
 
 use crate::place::block_number;
@@ -14,9 +15,9 @@ use std::alloc::{AllocError, Global};
 /// Reads the stream from the start on: the longest list of at most `ring` blocks that continue each
 /// other, from the block of the start's sequence on. The ring is the disk's blocks 2 to `ring + 1`.
 ///
-/// `Device` comes only where the disk's count of faults rose, and nothing else comes there. The disk is only read: each block of the
-/// stream once, and the one after it where the ring has it. It takes the memory of the record bytes,
-/// and the time of one pass over the blocks that are read.
+/// `Device` comes only where the disk's count of faults rose, and nothing else comes there. The disk is
+/// only read: each block of the stream once, and the one after it where the ring has it. It takes the
+/// memory of the record bytes, and the time of one pass over the blocks that are read.
 pub fn walk<D: Disk>(
     alloc: Global,
     disk: &mut D,
@@ -25,10 +26,10 @@ pub fn walk<D: Disk>(
     generation: u64,
 ) -> Result<Stream, WalkFault>
     requires filled { 1 ≤ ring }
-    requires room { ring + 2 ≤ D.size disk.old }
+    requires room { ring + 2 ≤ (D.seen disk.old).size }
     requires begun { start.sequence < 2 ^ 62 }
     // Where the disk tells what it holds, this is its stream.
-    ensures stream { IfOk result (λ s. IfSome (D.told disk.old) (λ r.
+    ensures stream { IfOk result (λ s. IfSome (D.seen disk.old).told (λ r.
         IsStream r.contents ring generation start s.blocks s.next)) }
 
     // Whether it tells or not, the blocks follow each other from the start to the next place.
@@ -36,19 +37,15 @@ pub fn walk<D: Disk>(
     ensures few { IfOk result (λ s. length s.blocks ≤ ring) }
     ensures next { IfOk result (λ s. s.next.sequence ≡ start.sequence + length s.blocks) }
 
-    ensures size { D.size disk.new ≡ D.size disk.old }
-    ensures told { D.told disk.new ≡ D.told disk.old }
-    ensures calls { D.calls disk.new ≡ D.calls disk.old }
-    ensures last_made { D.last_made disk.new ≡ D.last_made disk.old }
-
     // The blocks of the stream are read once, and the one after it unless the ring is full.
     ensures reads { IfOk result (λ s.
-        D.reads disk.new ≡ D.reads disk.old + min (length s.blocks + 1) ring) }
-    ensures most_reads { D.reads disk.new ≤ D.reads disk.old + ring }
-
-    ensures faults { D.faults disk.old ≤ D.faults disk.new }
-    ensures device { IsErrOf result WalkFault.Device → Rose (D.faults disk.old) (D.faults disk.new) }
-    ensures unfailed { result ≢ Err WalkFault.Device → D.faults disk.new ≡ D.faults disk.old }
+        (D.seen disk.new).reads ≡ (D.seen disk.old).reads + min (length s.blocks + 1) ring) }
+    ensures most_reads { (D.seen disk.new).reads ≤ (D.seen disk.old).reads + ring }
+    ensures device { IsErrOf result WalkFault.Device
+        → Rose (D.seen disk.old).faults (D.seen disk.new).faults }
+    ensures unfailed { result ≢ Err WalkFault.Device
+        → (D.seen disk.new).faults ≡ (D.seen disk.old).faults }
+    ensures disk { HasOnlyRead (D.seen disk.old) (D.seen disk.new) }
 {
     let mut items = Vec::new(alloc);
     let mut next = start;

@@ -9,13 +9,16 @@ pub returns-clause-now : goal.returns-clause-now
 returns-clause-now c = λ r. (settled-was r, was-settled_now r)
 
 pub returns-clause-flush : goal.returns-clause-flush
-returns-clause-flush c = settled-told
+returns-clause-flush c before after ok w =
+    settled-told before.told after.told before.calls after.calls after.last_made ok w.made
 
 pub returns-clause-none_failed : goal.returns-clause-none_failed
 returns-clause-none_failed c = settled-good
 
 pub returns-clause-good_write : goal.returns-clause-good_write
-returns-clause-good_write c = no_failed-told_write
+returns-clause-good_write c before after at bytes w =
+    no_failed-told_write before.told after.told before.calls after.calls after.last_made at bytes w.made
 
 pub returns-clause-good_flush : goal.returns-clause-good_flush
-returns-clause-good_flush c = no_failed-told_flush
+returns-clause-good_flush c before after w =
+    no_failed-told_flush before.told after.told before.calls after.calls after.last_made w.made

@@ -1,20 +1,18 @@
 use Rattle.std.proofs.Common.{◌≡◌, ◌+◌, ◌-◌, ◌≤◌, length, vec_len}
 use Rattle.std.specs.Option.{IfSome}
+use Rattle.fx_disk.specs.Seen.{HasOnlyRead}
 use Rattle.fx_journal.specs.Stream.{IsRun, IsSeries}
 use Rattle.fx_journal.proofs.walker.walk.Given as goal
 
 abbrev pub invariant-reading : goal.invariant-reading
 invariant-reading g l = record {
-  run : IfSome (g.D.Disk.told l.disk) (λ r. IsRun r.contents l.ring l.generation l.fn.start l.items.items l.next);
+  run : IfSome (g.D.Disk.seen l.disk).told (λ r. IsRun r.contents l.ring l.generation l.fn.start l.items.items l.next);
   series : IsSeries l.generation l.fn.start l.items.items l.next;
   sequence : l.next.sequence ≡ l.fn.start.sequence + length l.items.items;
   few : length l.items.items ≤ l.ring;
-  size : g.D.Disk.size l.disk ≡ g.D.Disk.size l.fn.disk;
-  told : g.D.Disk.told l.disk ≡ g.D.Disk.told l.fn.disk;
-  calls : g.D.Disk.calls l.disk ≡ g.D.Disk.calls l.fn.disk;
-  last_made : g.D.Disk.last_made l.disk ≡ g.D.Disk.last_made l.fn.disk;
-  reads : g.D.Disk.reads l.disk ≡ g.D.Disk.reads l.fn.disk + length l.items.items;
-  faults : g.D.Disk.faults l.disk ≡ g.D.Disk.faults l.fn.disk;
+  disk : HasOnlyRead (g.D.Disk.seen l.fn.disk) (g.D.Disk.seen l.disk);
+  reads : (g.D.Disk.seen l.disk).reads ≡ (g.D.Disk.seen l.fn.disk).reads + length l.items.items;
+  faults : (g.D.Disk.seen l.disk).faults ≡ (g.D.Disk.seen l.fn.disk).faults;
 }
 
 abbrev pub decreases-reading : goal.decreases-reading

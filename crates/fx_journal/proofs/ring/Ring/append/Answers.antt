@@ -32,7 +32,7 @@ loop-piece-preserved c =
     going-more c.args.self.now c.loop-piece.self c.close_with.new.self c.args.pool.now c.loop-piece.pool c.close_with.new.pool c.in-Some.piece.now c.in-Some.later.now c.loop-piece.rest.now c.args.rec.now i
     split (omega (arith, text, i.ring.unfinished_room, c.in-Some.ensures.cases.3))
     (promise_left c.args.self.now c.loop-piece.self c.args.pool.now c.loop-piece.pool c.loop-piece.rest.now c.args.rec.now i (subst IsRing c.self.view_is c.self.invariant.0) c.requires.promised (omega (arith, text, i.ring.unfinished_room, c.in-Some.ensures.cases.0)))
-    e.out e.others e.closed e.ring e.buffers e.queue
+    e.out e.kept.others e.closed e.kept.ring e.kept.buffers e.queue
 
 pub loop-piece-smaller : goal.loop-piece-smaller
 loop-piece-smaller c =
@@ -87,16 +87,16 @@ returns-clause-queued c =
 pub returns-clause-start : goal.returns-clause-start
 returns-clause-start c = ap (λ (r : RingState). r.start) c.give_promised.ensures.promised ∙ ap (λ (r : RingState). r.start) c.begin_with.ensures.begun ∙ c.loop-piece.invariant.start
 
-pub returns-clause-size : goal.returns-clause-size
-returns-clause-size c = ap (λ (r : RingState). r.size) c.give_promised.ensures.promised ∙ ap (λ (r : RingState). r.size) c.begin_with.ensures.begun ∙ c.loop-piece.invariant.size
-
-pub returns-clause-epoch : goal.returns-clause-epoch
-returns-clause-epoch c = ap (λ (r : RingState). r.epoch) c.give_promised.ensures.promised ∙ ap (λ (r : RingState). r.epoch) c.begin_with.ensures.begun ∙ c.loop-piece.invariant.epoch
-
 pub returns-clause-given : goal.returns-clause-given
 returns-clause-given c =
-    ends-given c.args.self.now c.loop-piece.self c.begin_with.new.self c.give_promised.new.self c.args.pool.now c.loop-piece.pool c.give_promised.new.pool c.loop-piece.rest.now c.args.rec.now _ c.loop-piece.invariant (subst IsRing c.self.view_is c.self.invariant.0) c.begin_with.ensures.ring c.give_promised.ensures.ring c.begin_with.ensures.begun c.give_promised.ensures.promised
+    ends-given c.args.self.now c.loop-piece.self c.begin_with.new.self c.give_promised.new.self c.args.pool.now c.loop-piece.pool c.give_promised.new.pool c.loop-piece.rest.now c.args.rec.now _ c.loop-piece.invariant (subst IsRing c.self.view_is c.self.invariant.0) c.begin_with.ensures.ring c.give_promised.ensures.kept.ring c.begin_with.ensures.begun c.give_promised.ensures.promised
     (omega (arith, ap (λ (r : RingState). r.promised) c.self-2.view_is)) c.give_promised.ensures.given
 
-pub returns-clause-others : goal.returns-clause-others
-returns-clause-others c = ends-others c.args.self.now c.loop-piece.self c.begin_with.new.self c.args.pool.now c.loop-piece.pool c.give_promised.new.pool c.loop-piece.rest.now c.args.rec.now c.loop-piece.invariant c.begin_with.ensures.begun c.give_promised.ensures.others
+pub returns-clause-kept : goal.returns-clause-kept
+returns-clause-kept c = record {
+  size = ap (λ (r : RingState). r.size) c.give_promised.ensures.promised ∙ ap (λ (r : RingState). r.size) c.begin_with.ensures.begun ∙ c.loop-piece.invariant.size;
+  epoch = ap (λ (r : RingState). r.epoch) c.give_promised.ensures.promised ∙ ap (λ (r : RingState). r.epoch) c.begin_with.ensures.begun ∙ c.loop-piece.invariant.epoch;
+  ring = c.give_promised.ensures.kept.ring;
+  buffers = c.give_promised.ensures.kept.buffers;
+  others = ends-others c.args.self.now c.loop-piece.self c.begin_with.new.self c.args.pool.now c.loop-piece.pool c.give_promised.new.pool c.loop-piece.rest.now c.args.rec.now c.loop-piece.invariant c.begin_with.ensures.begun c.give_promised.ensures.kept.others;
+}

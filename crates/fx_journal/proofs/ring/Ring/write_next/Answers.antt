@@ -1,11 +1,12 @@
 use Rattle.std.proofs.Common.{◌≡◌, Some, None, Ok, ℕ, ◌+◌, ◌%◌, ◌-◌, ◌<◌, true, false, List, length, drop, arith, sym, subst, ◌∙◌, ap, refl}
 use Rattle.std.proofs.lemmas.List.{get_or_default, length-drop}
+use Rattle.fx_disk.proofs.Frames.{called_same, write_called}
 use Rattle.fx_pool.specs.Region.{Run, IsOut, bytes_of}
 use Rattle.fx_journal.specs.Ring.{RingState, IsRing, KeepsBuffers, KeepsOthers, run_at, next_block, without_first}
 use Rattle.fx_journal.specs.Writing.{first_bytes, wrote, block_at}
-use Rattle.fx_journal.proofs.Buffers.{others-none}
+use Rattle.fx_journal.proofs.Buffers.{keeps-same}
 use Rattle.fx_journal.proofs.Queues.{holds-first, seen-first}
-use Rattle.fx_journal.proofs.Writes.{next-waits, first-written, made-as, ring-without_first}
+use Rattle.fx_journal.proofs.Writes.{next-waits, first-written, written-as, ring-without_first}
 use Rattle.fx_journal.proofs.ring.Ring.write_next.Goals as goal
 
 pub returns-in_default : goal.returns-in_default
@@ -13,25 +14,15 @@ returns-in_default g c =
     let none : next_block c.args.self.now c.args.before ≡ None = sym c.next_to_write.ensures ∙ c.in_default.is in
     record {
       answer = ap wrote (sym none);
-      nothing = λ e. refl;
-      nothing_ring = λ e. refl;
-      nothing_pool = λ e. refl;
-      nothing_disk = λ e. refl;
+      nothing = λ e. (refl, refl, refl, refl);
       made = λ s queue e h. cc;
       written = λ s e. cc;
       queue = λ s queue e h. cc;
-      given = refl;
-      ring_size = refl;
       fault = tt;
-      fault_ring = tt;
-      fault_pool = tt;
-      size = refl;
+      given = refl;
+      kept = keeps-same c.args.self.now c.args.pool.now (subst IsRing c.self.view_is c.self.invariant.0) c.requires.buffers;
+      disk = called_same (g.D.Disk.seen c.args.disk.now);
       reads = refl;
-      faults = omega arith;
-      unfailed = refl;
-      ring = subst IsRing c.self.view_is c.self.invariant.0;
-      buffers = c.requires.buffers;
-      others = others-none c.args.self.now.buffers c.args.pool.now;
     }
 
 pub unreachable-requires : goal.unreachable-requires
@@ -65,27 +56,17 @@ returns-in-Err g c =
     record {
       answer = tt;
       nothing = λ e. cc;
-      nothing_ring = λ e. cc;
-      nothing_pool = λ e. cc;
-      nothing_disk = λ e. cc;
       made = λ s queue e h.
           let same : c.in-Some.sequence ≡ s = cc in
-          made-as _ _ _ _ _ _ _ _ _ _ _ (place ∙ ap (block_at c.args.self.now) same)
-          (ap (bytes_of c.args.pool.now) (sym at) ∙ first-written c.args.self.now c.args.pool.now c.args.before s queue e h) c.in-Err.ensures.made;
+          written-as _ _ _ _ _ _ _ (place ∙ ap (block_at c.args.self.now) same)
+          (ap (bytes_of c.args.pool.now) (sym at) ∙ first-written c.args.self.now c.args.pool.now c.args.before s queue e h) c.in-Err.ensures.written;
       written = λ s e. tt;
       queue = λ s queue e h. tt;
+      fault = (refl, refl);
       given = refl;
-      ring_size = refl;
-      fault = c.in-Err.ensures.fault;
-      fault_ring = refl;
-      fault_pool = refl;
-      size = c.in-Err.ensures.size;
-      reads = c.in-Err.ensures.reads;
-      faults = c.in-Err.ensures.faults;
-      unfailed = tt;
-      ring = subst IsRing c.self.view_is c.self.invariant.0;
-      buffers = c.requires.buffers;
-      others = others-none c.args.self.now.buffers c.args.pool.now;
+      kept = keeps-same c.args.self.now c.args.pool.now (subst IsRing c.self.view_is c.self.invariant.0) c.requires.buffers;
+      disk = write_called _ _ _ _ _ c.in-Err.ensures.written;
+      reads = c.in-Err.ensures.written.reads;
     }
 
 pub give_first-requires : goal.give_first-requires
@@ -110,27 +91,23 @@ returns g c =
     record {
       answer = ap wrote (sym some);
       nothing = λ e. cc;
-      nothing_ring = λ e. cc;
-      nothing_pool = λ e. cc;
-      nothing_disk = λ e. cc;
       made = λ s queue e h.
           let same : c.in-Some.sequence ≡ s = cc in
-          made-as _ _ _ _ _ _ _ _ _ _ _ (place ∙ ap (block_at c.args.self.now) same)
-          (ap (bytes_of c.args.pool.now) (sym at) ∙ first-written c.args.self.now c.args.pool.now c.args.before s queue e h) c.in_default-write_buffer.ensures.made;
+          written-as _ _ _ _ _ _ _ (place ∙ ap (block_at c.args.self.now) same)
+          (ap (bytes_of c.args.pool.now) (sym at) ∙ first-written c.args.self.now c.args.pool.now c.args.before s queue e h) c.in_default-write_buffer.ensures.written;
       written = λ s e. ap (λ (l : List Run). let next : RingState = record { start = i.start; size = i.size; epoch = i.epoch; closed = i.closed; chain = i.chain; text = i.text.items; promised = i.promised; queued = i.queued - 1; buffers = l } in next) left ∙ leaves;
       queue = λ s queue e.
           seen-first ring c.args.self.now _ c.args.pool.now c.give_first.new.pool c.self.view_is
           (holds-first ring i.start i.closed 1 c.give_first.new.buffers.items c.args.pool.now c.give_first.new.pool c.self.invariant.0 refl waits left c.give_first.ensures.bytes) queue;
       given = omega (arith, c.give_first.ensures.counted, ap length left, length-drop 1 i.buffers.items, here, ap (λ (r : RingState). length r.buffers) c.self.view_is);
-      ring_size = ap (λ (r : RingState). r.size) c.self.view_is;
       fault = tt;
-      fault_ring = tt;
-      fault_pool = tt;
-      size = c.in_default-write_buffer.ensures.size;
-      reads = c.in_default-write_buffer.ensures.reads;
-      faults = c.in_default-write_buffer.ensures.faults;
-      unfailed = c.in_default-write_buffer.ensures.unfailed;
-      ring = subst (λ (l : List Run). let next : RingState = record { start = i.start; size = i.size; epoch = i.epoch; closed = i.closed; chain = i.chain; text = i.text.items; promised = i.promised; queued = i.queued - 1; buffers = l } in IsRing next) (sym left) (ring-without_first ring c.self.invariant.0 waits);
-      buffers = c.give_first.ensures.buffers;
-      others = subst (λ (r : RingState). KeepsOthers r.buffers c.args.pool.now c.give_first.new.pool) c.self.view_is c.give_first.ensures.others;
+      kept = record {
+        size = ap (λ (r : RingState). r.size) c.self.view_is;
+        epoch = ap (λ (r : RingState). r.epoch) c.self.view_is;
+        ring = subst (λ (l : List Run). let next : RingState = record { start = i.start; size = i.size; epoch = i.epoch; closed = i.closed; chain = i.chain; text = i.text.items; promised = i.promised; queued = i.queued - 1; buffers = l } in IsRing next) (sym left) (ring-without_first ring c.self.invariant.0 waits);
+        buffers = c.give_first.ensures.buffers;
+        others = subst (λ (r : RingState). KeepsOthers r.buffers c.args.pool.now c.give_first.new.pool) c.self.view_is c.give_first.ensures.others;
+      };
+      disk = write_called _ _ _ _ _ c.in_default-write_buffer.ensures.written;
+      reads = c.in_default-write_buffer.ensures.written.reads;
     }

@@ -4,4 +4,4 @@ use Rattle.fx_journal.proofs.Ready.{ready-at, ready-step, ready-promised, ready-
 use Rattle.fx_journal.proofs.ring.tests.append.Goals as goal
 
 pub returns : goal.returns
-returns g c = ready-step c.args.ring.now c.append.new.self c.args.pool.now c.append.new.pool c.requires c.append.ensures.ring c.append.ensures.buffers c.append.ensures.size c.append.ensures.others.order c.append.ensures.given
+returns g c = ready-step c.args.ring.now c.append.new.self c.args.pool.now c.append.new.pool c.requires c.append.ensures.kept.ring c.append.ensures.kept.buffers c.append.ensures.kept.size c.append.ensures.kept.others.order c.append.ensures.given

@@ -4,4 +4,4 @@ use Rattle.fx_journal.proofs.Ready.{ready-at, ready-step, ready-promised, ready-
 use Rattle.fx_journal.proofs.ring.tests.pad.Goals as goal
 
 pub returns : goal.returns
-returns c = ready-padded c.args.ring.now c.pad.new.self c.args.pool.now c.pad.new.pool c.requires c.pad.ensures.ring c.pad.ensures.buffers c.pad.ensures.others.order c.pad.ensures.padded c.pad.ensures.out
+returns c = ready-padded c.args.ring.now c.pad.new.self c.args.pool.now c.pad.new.pool c.requires c.pad.ensures.kept.ring c.pad.ensures.kept.buffers c.pad.ensures.kept.others.order c.pad.ensures.padded c.pad.ensures.out

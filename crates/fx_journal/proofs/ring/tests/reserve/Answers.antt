@@ -7,4 +7,4 @@ pub reserve-requires : goal.reserve-requires
 reserve-requires c = record { buffers = c.requires.ready.buffers; blocks = ready-room c.args.ring.now c.args.pool.now c.args.bytes c.requires.ready c.requires.few }
 
 pub returns : goal.returns
-returns c = ready-promised c.args.ring.now c.reserve.new.self c.args.pool.now c.reserve.new.pool _ _ c.requires.ready c.in_default.ensures.ring c.in_default.ensures.buffers c.in_default.ensures.others.order c.in_default.ensures.promised (omega (arith, c.in_default.ensures.taken))
+returns c = ready-promised c.args.ring.now c.reserve.new.self c.args.pool.now c.reserve.new.pool _ _ c.requires.ready c.in_default.ensures.kept.ring c.in_default.ensures.kept.buffers c.in_default.ensures.kept.others.order c.in_default.ensures.promised (omega (arith, c.in_default.ensures.taken))
