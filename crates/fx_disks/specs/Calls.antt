@@ -12,12 +12,14 @@ call_of (Flush ok) = model.Flush ok
 -- What the blocks read as after a call: a failed write leaves its block as it was.
 abbrev pub contents_after : List (List ℕ) → List Call → List (List ℕ)
 contents_after now [] = now
-contents_after now (model.Write at bytes true ∷ calls) = contents_after (slice_set now at bytes) calls
+contents_after now (model.Write at bytes true ∷ calls) =
+    contents_after (slice_set now at bytes) calls
 contents_after now (model.Write at bytes false ∷ calls) = contents_after now calls
 contents_after now (model.Flush ok ∷ calls) = contents_after now calls
 
 abbrev pub record_of : List (List ℕ) → List Call → DiskRecord
-record_of entry calls = record { entry = entry; calls = calls; contents = contents_after entry calls }
+record_of entry calls =
+    record { entry = entry; calls = calls; contents = contents_after entry calls }
 
 -- The bytes of a write, or the other bytes where the call is a flush.
 abbrev pub bytes_or : Call → List ℕ → List ℕ

@@ -15,26 +15,37 @@ abbrev pub bytes_of_choice : List (List ℕ) → List Call → ℕ → ℕ → O
 bytes_of_choice entry calls b settled None = bytes_by entry calls b settled
 bytes_of_choice entry calls b settled (Some Settled) = bytes_by entry calls b settled
 bytes_of_choice entry calls b settled (Some (Written number)) = bytes_by entry calls b number
-bytes_of_choice entry calls b settled (Some (Half number)) = take 2048 (bytes_by entry calls b number) ++ drop 2048 (bytes_by entry calls b settled)
+bytes_of_choice entry calls b settled (Some (Half number)) =
+    take 2048 (bytes_by entry calls b number) ++ drop 2048 (bytes_by entry calls b settled)
 bytes_of_choice entry calls b settled (Some Zeros) = zero_bytes
 
 -- Whether the pick, after those that made the choices `old`, is one more: then it is the choice of its
 -- block.
-pub record Chooses (calls : List Call) (m : ℕ) (old new : List (Option Loose)) (pick : Pick) (answer : Bool) : Type 0 where
+pub record Chooses (calls : List Call) (m : ℕ) (old new : List (Option Loose)) (pick : Pick)
+    (answer : Bool) : Type 0 where
   pub free : answer ≡ true → slice_index_or old pick.block None ≡ None
   pub chosen : answer ≡ true → new ≡ slice_set old pick.block (Some pick.loose)
-  pub is_pick : answer ≡ true → (entry : List (List ℕ)) → length entry ≡ length old → IsPick (record_of entry calls) m pick
-  pub refused : answer ≡ false → (entry : List (List ℕ)) → length entry ≡ length old → IsPick (record_of entry calls) m pick → slice_index_or old pick.block None ≡ None → ⊥
+  pub is_pick : answer ≡ true → (entry : List (List ℕ)) → length entry ≡ length old →
+      IsPick (record_of entry calls) m pick
+  pub refused : answer ≡ false → (entry : List (List ℕ)) → length entry ≡ length old →
+      IsPick (record_of entry calls) m pick → slice_index_or old pick.block None ≡ None → ⊥
 
 -- The choices are those of the picks, whatever the image at entry.
-pub record AreChosen (calls : List Call) (m : ℕ) (chosen : List (Option Loose)) (picks : List Pick) : Type 0 where
-  pub are_picks : (entry : List (List ℕ)) → length entry ≡ length chosen → ArePicks (record_of entry calls) m picks
+pub record AreChosen (calls : List Call) (m : ℕ) (chosen : List (Option Loose))
+    (picks : List Pick) : Type 0 where
+  pub are_picks : (entry : List (List ℕ)) → length entry ≡ length chosen →
+      ArePicks (record_of entry calls) m picks
   pub choices : (b : ℕ) → b < length chosen → slice_index_or chosen b None ≡ pick_of picks b
 
 abbrev pub AreNoPicks : List Call → ℕ → ℕ → List Pick → Type 0
-AreNoPicks calls m n picks = (entry : List (List ℕ)) → length entry ≡ n → ArePicks (record_of entry calls) m picks → ⊥
+AreNoPicks calls m n picks = (entry : List (List ℕ)) → length entry ≡ n →
+    ArePicks (record_of entry calls) m picks → ⊥
 
 -- The first `n` blocks hold what the choices leave in them.
-pub record HoldsChoices (entry : List (List ℕ)) (calls : List Call) (ts : List Track) (flushed : ℕ) (chosen : List (Option Loose)) (blocks : List (List ℕ)) (n : ℕ) : Type 0 where
+pub record HoldsChoices (entry : List (List ℕ)) (calls : List Call) (ts : List Track) (flushed : ℕ)
+    (chosen : List (Option Loose)) (blocks : List (List ℕ)) (n : ℕ) : Type 0 where
   pub size : length blocks ≡ n
-  pub each : (b : ℕ) → b < n → slice_index_or blocks b [] ≡ bytes_of_choice entry calls b (settled_by (slice_index_or ts b fresh) flushed) (slice_index_or chosen b None)
+  pub each : (b : ℕ) → b < n →
+      slice_index_or blocks b []
+      ≡ bytes_of_choice entry calls b (settled_by (slice_index_or ts b fresh) flushed)
+      (slice_index_or chosen b None)

@@ -25,7 +25,8 @@ CanBeLeft calls m b Zeros = Unit {0}
 abbrev pub left_bytes : DiskRecord → ℕ → ℕ → Loose → List ℕ
 left_bytes r m b Settled = (cell_at r m b).settled
 left_bytes r m b (Written number) = bytes_of (call_at r.calls (number - 1))
-left_bytes r m b (Half number) = take 2048 (bytes_of (call_at r.calls (number - 1))) ++ drop 2048 (cell_at r m b).settled
+left_bytes r m b (Half number) =
+    take 2048 (bytes_of (call_at r.calls (number - 1))) ++ drop 2048 (cell_at r m b).settled
 left_bytes r m b Zeros = zero_bytes
 
 -- A pick of a loose block.
@@ -51,6 +52,8 @@ chosen_bytes r m b None = (cell_at r m b).settled
 chosen_bytes r m b (Some loose) = left_bytes r m b loose
 
 -- The image of the picks.
-pub record IsImageOf (r : DiskRecord) (m : ℕ) (picks : List Pick) (image : List (List ℕ)) : Type 0 where
-  pub size : length image ≡ length r.entry
-  pub each : (b : ℕ) → b < length r.entry → slice_index_or image b [] ≡ chosen_bytes r m b (pick_of picks b)
+pub record IsImageOf (r : DiskRecord) (m : ℕ) (picks : List Pick) (image : List (List ℕ)) : Type 0
+  where
+    pub size : length image ≡ length r.entry
+    pub each : (b : ℕ) → b < length r.entry →
+        slice_index_or image b [] ≡ chosen_bytes r m b (pick_of picks b)

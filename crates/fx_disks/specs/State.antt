@@ -49,11 +49,13 @@ starved_state s = record s { faults = risen s.faults; starved = risen s.starved;
 
 -- A write or a flush that is made, after which the record is `disk`.
 abbrev pub made_state : MemoryState → DiskRecord → Bool → MemoryState
-made_state s disk ok = record s { disk = disk; faults = if ok then s.faults else risen s.faults; last_made = true }
+made_state s disk ok =
+    record s { disk = disk; faults = if ok then s.faults else risen s.faults; last_made = true }
 
 -- The record after a write: one that fails leaves its block as it was.
 abbrev pub written_record : DiskRecord → ℕ → List ℕ → Bool → DiskRecord
-written_record r at bytes ok = with_write r at bytes ok (if ok then bytes else slice_index_or r.contents at [])
+written_record r at bytes ok =
+    with_write r at bytes ok (if ok then bytes else slice_index_or r.contents at [])
 
 -- At 2^63 calls a further one is not made.
 pub record IsAtLimit (s t : MemoryState) (ok : Bool) : Type 0 where
@@ -81,4 +83,7 @@ Asks s t ok disk = IsAtLimit s t ok ⊎ (IsStarved s t ok ⊎ IsDone s t ok disk
 -- fail.
 pub record IsRead (s t : MemoryState) (ok : Bool) : Type 0 where
   pub failed : ok ≡ false ↔ ((2 ^ 63 ≤ s.reads) ⊎ Contains s.fail_reads (s.reads + 1))
-  pub state : t ≡ record s { reads = min (s.reads + 1) (2 ^ 63); faults = if ok then s.faults else risen s.faults }
+  pub state : t ≡ record s {
+    reads = min (s.reads + 1) (2 ^ 63);
+    faults = if ok then s.faults else risen s.faults;
+  }

@@ -15,10 +15,12 @@ abbrev pub settled_by : Track → ℕ → ℕ
 settled_by t flushed = if is_fixed t flushed then t.written else t.settled
 
 abbrev pub track_after : ℕ → Bool → ℕ → Track → Track
-track_after number ok flushed t = record { written = number; good = ok; settled = settled_by t flushed }
+track_after number ok flushed t =
+    record { written = number; good = ok; settled = settled_by t flushed }
 
 abbrev pub tracks_after : Call → ℕ → ℕ → List Track → List Track
-tracks_after (Write at bytes ok) number flushed ts = slice_set ts at (track_after number ok flushed (slice_index_or ts at fresh))
+tracks_after (Write at bytes ok) number flushed ts =
+    slice_set ts at (track_after number ok flushed (slice_index_or ts at fresh))
 tracks_after (Flush ok) number flushed ts = ts
 
 abbrev pub flushed_after : Call → ℕ → ℕ → ℕ
@@ -35,14 +37,17 @@ pub record Tracks (r : DiskRecord) (b n flushed : ℕ) (cell : Cell) (t : Track)
   pub settled : cell.settled ≡ bytes_by r.entry r.calls b (settled_by t flushed)
 
 abbrev pub AllTracked : DiskRecord → ℕ → ℕ → (ℕ → Cell) → List Track → Type 0
-AllTracked r n flushed cells ts = (b : ℕ) → b < length ts → Tracks r b n flushed (cells b) (slice_index_or ts b fresh)
+AllTracked r n flushed cells ts = (b : ℕ) → b < length ts →
+    Tracks r b n flushed (cells b) (slice_index_or ts b fresh)
 
 abbrev pub AllCallsOf : ℕ → List Call → Type 0
 AllCallsOf n calls = (k : ℕ) → k < length calls → IsCallOf n (call_at calls k)
 
 -- After the first `m` of the calls, and at the moment `m`, whatever the image at entry.
 abbrev pub TrackedAfter : List Call → ℕ → ℕ → List Track → Type 0
-TrackedAfter calls m flushed ts = (entry : List (List ℕ)) → AllTracked (record_of entry calls) m flushed (cell_after (record_of entry calls) m) ts
+TrackedAfter calls m flushed ts = (entry : List (List ℕ)) →
+    AllTracked (record_of entry calls) m flushed (cell_after (record_of entry calls) m) ts
 
 abbrev pub TrackedAt : List Call → ℕ → ℕ → List Track → Type 0
-TrackedAt calls m flushed ts = (entry : List (List ℕ)) → AllTracked (record_of entry calls) (m + 1) flushed (cell_at (record_of entry calls) m) ts
+TrackedAt calls m flushed ts = (entry : List (List ℕ)) →
+    AllTracked (record_of entry calls) (m + 1) flushed (cell_at (record_of entry calls) m) ts

@@ -135,7 +135,8 @@ impl Disk for FileDisk {
     }
 
     fn write(&mut self, at: u32, from: &[u8; BLOCK_BYTES]) -> Result<(), DiskFailed>
-        ensures written { HasWritten (seen_of self.old) (seen_of self.new) at from.now (is_ok result) }
+        ensures written { HasWritten (seen_of self.old) (seen_of self.new) at from.now
+            (is_ok result) }
         ensures refused { self.old.writable ≡ false → IsRefused self.old self.new (is_ok result) }
     {
         self.last_made = self.writable && self.calls < MAX_CALLS;
@@ -167,7 +168,12 @@ impl Disk for FileDisk {
         Err(DiskFailed)
     }
 
-    ghost in_range = { λ d. record { few_blocks = d.few_blocks; few_calls = d.few_calls; few_reads = d.few_reads; few_faults = d.few_faults } };
+    ghost in_range = { λ d. record {
+      few_blocks = d.few_blocks;
+      few_calls = d.few_calls;
+      few_reads = d.few_reads;
+      few_faults = d.few_faults;
+    } };
 
     ghost told_ok = { λ d. tt };
 }

@@ -46,7 +46,8 @@ fn wrote(calls: &[Made], moment: u64, number: u64, block: u32) -> bool
 }
 
 fn can_be_left(calls: &[Made], moment: u64, pick: &Pick) -> bool
-    ensures { IsTrue result ↔ CanBeLeft (map call_of calls.now) moment pick.now.block pick.now.loose }
+    ensures { IsTrue result
+        ↔ CanBeLeft (map call_of calls.now) moment pick.now.block pick.now.loose }
 {
     match pick.loose {
         Loose::Settled | Loose::Zeros => true,
@@ -66,7 +67,8 @@ fn choose(
     requires tracked { TrackedAt (map call_of calls.now) moment flushed tracks.now }
     requires len { length tracks.now ≡ length chosen.old.items }
     ensures len { length chosen.new.items ≡ length chosen.old.items }
-    ensures chooses { Chooses (map call_of calls.now) moment chosen.old.items chosen.new.items pick.now result }
+    ensures chooses { Chooses (map call_of calls.now) moment chosen.old.items chosen.new.items
+        pick.now result }
 {
     let block = pick.block as usize;
     if block >= chosen.len() {
@@ -130,8 +132,10 @@ fn choose_all(
     requires none { chosen.old.items ≡ replicate (length tracks.now) None }
     requires moment { moment ≤ length calls.now }
     ensures len { length chosen.new.items ≡ length chosen.old.items }
-    ensures are_picks { IsTrue result → AreChosen (map call_of calls.now) moment chosen.new.items picks.now }
-    ensures refused { result ≡ false → AreNoPicks (map call_of calls.now) moment (length tracks.now) picks.now }
+    ensures are_picks { IsTrue result →
+        AreChosen (map call_of calls.now) moment chosen.new.items picks.now }
+    ensures refused { result ≡ false →
+        AreNoPicks (map call_of calls.now) moment (length tracks.now) picks.now }
 {
     for pick in picks {
         if !choose(chosen, tracks, flushed, calls, moment, pick) {
@@ -152,7 +156,9 @@ fn left_blocks(
 ) -> Result<Vec<[u8; 4096]>, AllocError>
     requires tracks { length tracks.now ≡ length entry.now }
     requires chosen { length chosen.now ≡ length entry.now }
-    ensures { IfOk result (λ v. HoldsChoices entry.now (map call_of calls.now) tracks.now flushed chosen.now v.items (length entry.now)) }
+    ensures { IfOk result
+        (λ v. HoldsChoices entry.now (map call_of calls.now) tracks.now flushed chosen.now v.items
+        (length entry.now)) }
 {
     let mut blocks = Vec::with_capacity(alloc, entry.len())?;
     for block in 0..entry.len() {
@@ -170,11 +176,16 @@ pub fn picked_blocks(
     moment: u64,
     picks: &[Pick],
 ) -> Result<Option<Vec<[u8; 4096]>>, AllocError>
-    requires record { IsRecordOf (length entry.now) (length (map call_of calls.now)) (record_of entry.now (map call_of calls.now)) }
+    requires record { IsRecordOf (length entry.now) (length (map call_of calls.now))
+        (record_of entry.now (map call_of calls.now)) }
     requires moment { moment ≤ length calls.now }
-    ensures picks { IfOk result (λ o. IsSome o ↔ ArePicks (record_of entry.now (map call_of calls.now)) moment picks.now) }
-    ensures image { IfOk result (λ o. IfSome o (λ v. IsImageOf (record_of entry.now (map call_of calls.now)) moment picks.now v.items)) }
-    ensures left { IfOk result (λ o. IfSome o (λ v. Left (record_of entry.now (map call_of calls.now)) moment v.items)) }
+    ensures picks { IfOk result
+        (λ o. IsSome o ↔ ArePicks (record_of entry.now (map call_of calls.now)) moment picks.now) }
+    ensures image { IfOk result
+        (λ o. IfSome o (λ v. IsImageOf (record_of entry.now (map call_of calls.now)) moment
+        picks.now v.items)) }
+    ensures left { IfOk result
+        (λ o. IfSome o (λ v. Left (record_of entry.now (map call_of calls.now)) moment v.items)) }
 {
     let mut tracks = Vec::new(alloc);
     tracks.resize(entry.len(), Track::fresh())?;

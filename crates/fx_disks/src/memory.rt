@@ -31,7 +31,9 @@ pub struct MemDisk {
     last_made: bool,
     fail_calls: Numbers,
     fail_reads: Numbers,
-    ghost recorded: { IsRecordOf (length entry.items) (length (map call_of calls.items)) (record_of entry.items (map call_of calls.items)) } by { IsRecordOf-prop (length entry.items) (length (map call_of calls.items)) (record_of entry.items (map call_of calls.items)) },
+    ghost recorded: { IsRecordOf (length entry.items) (length (map call_of calls.items))
+        (record_of entry.items (map call_of calls.items)) } by { IsRecordOf-prop (length entry.items) (length (map call_of calls.items))
+            (record_of entry.items (map call_of calls.items)) },
     ghost indexed: { IsIndex entry.items (map call_of calls.items) latest.items } by { IsIndex-prop entry.items (map call_of calls.items) latest.items },
     ghost few_blocks: { length entry.items < 2 ^ 32 },
     ghost few_calls: { length (map call_of calls.items) ≤ 2 ^ 63 },
@@ -40,7 +42,8 @@ pub struct MemDisk {
 }
 
 fn push_call(calls: &mut Vec<Made>, call: Made) -> bool
-    ensures kept { result ≡ true → map call_of calls.new.items ≡ map call_of calls.old.items ++ call_of call ∷ [] }
+    ensures kept { result ≡ true →
+        map call_of calls.new.items ≡ map call_of calls.old.items ++ call_of call ∷ [] }
     ensures refused { result ≡ false → calls.new.items ≡ calls.old.items }
 {
     calls.push(call).is_ok()
@@ -49,14 +52,16 @@ fn push_call(calls: &mut Vec<Made>, call: Made) -> bool
 // Makes the index one of so many blocks, unless memory is refused.
 fn extend_index(latest: &mut Vec<u64>, blocks: usize) -> bool
     ensures len { result ≡ true → length latest.new.items ≡ blocks }
-    ensures index { (entry : List (List ℕ)) (calls : List model.Call) → length entry ≡ blocks → IsIndex entry calls latest.old.items → IsIndex entry calls latest.new.items }
+    ensures index { (entry : List (List ℕ)) (calls : List model.Call) → length entry ≡ blocks →
+        IsIndex entry calls latest.old.items → IsIndex entry calls latest.new.items }
 {
     latest.resize(blocks, 0).is_ok()
 }
 
 fn note_write(latest: &mut Vec<u64>, at: u32, number: u64, ok: bool)
     requires { at < length latest.old.items }
-    ensures { latest.new.items ≡ (if ok then slice_set latest.old.items at number else latest.old.items) }
+    ensures { latest.new.items
+        ≡ (if ok then slice_set latest.old.items at number else latest.old.items) }
 {
     if ok {
         latest[at as usize] = number;
@@ -75,9 +80,12 @@ fn keep_write(
 ) -> bool
     requires at { at < blocks }
     requires room { length calls.old.items < 2 ^ 63 }
-    ensures kept { result ≡ true → map call_of calls.new.items ≡ map call_of calls.old.items ++ model.Write at from.now ok ∷ [] }
+    ensures kept { result ≡ true →
+        map call_of calls.new.items ≡ map call_of calls.old.items ++ model.Write at from.now ok
+        ∷ [] }
     ensures refused { result ≡ false → calls.new.items ≡ calls.old.items }
-    ensures index { (entry : List (List ℕ)) → length entry ≡ blocks → IsIndex entry (map call_of calls.old.items) latest.old.items →
+    ensures index { (entry : List (List ℕ)) → length entry ≡ blocks →
+        IsIndex entry (map call_of calls.old.items) latest.old.items →
         IsIndex entry (map call_of calls.new.items) latest.new.items }
 {
     if !extend_index(latest, blocks) {
@@ -132,7 +140,8 @@ impl MemDisk {
     /// memory, and sorts the numbers in place.
     pub fn fail_calls(&mut self, calls: Vec<u64>)
         ensures listed { IsPermutation calls.items (state_of self.new).fail_calls }
-        ensures same { state_of self.new ≡ record (state_of self.old) { fail_calls = (state_of self.new).fail_calls } }
+        ensures same { state_of self.new
+            ≡ record (state_of self.old) { fail_calls = (state_of self.new).fail_calls } }
     {
         self.fail_calls = Numbers::of(calls);
     }
@@ -141,7 +150,8 @@ impl MemDisk {
     /// sorts the numbers in place.
     pub fn fail_reads(&mut self, reads: Vec<u64>)
         ensures listed { IsPermutation reads.items (state_of self.new).fail_reads }
-        ensures same { state_of self.new ≡ record (state_of self.old) { fail_reads = (state_of self.new).fail_reads } }
+        ensures same { state_of self.new
+            ≡ record (state_of self.old) { fail_reads = (state_of self.new).fail_reads } }
     {
         self.fail_reads = Numbers::of(reads);
     }
@@ -157,7 +167,8 @@ impl MemDisk {
     fn try_read(&mut self, at: u32, into: &mut [u8; 4096]) -> bool
         requires { at < length (told_of self.old).entry }
         ensures state { IsRead (state_of self.old) (state_of self.new) result }
-        ensures bytes { result ≡ true → into.new ≡ slice_index_or (told_of self.old).contents at [] }
+        ensures bytes { result ≡ true →
+            into.new ≡ slice_index_or (told_of self.old).contents at [] }
     {
         if self.reads >= MAX_CALLS {
             count_up(&mut self.faults);
@@ -176,7 +187,8 @@ impl MemDisk {
     // A write that is asked for, and whether it answers Ok.
     fn try_write(&mut self, at: u32, from: &[u8; 4096]) -> bool
         requires { at < length (told_of self.old).entry }
-        ensures { Asks (state_of self.old) (state_of self.new) result (written_record (told_of self.old) at from.now result) }
+        ensures { Asks (state_of self.old) (state_of self.new) result
+            (written_record (told_of self.old) at from.now result) }
     {
         if self.calls.len() as u64 >= MAX_CALLS {
             count_up(&mut self.faults);
@@ -209,7 +221,8 @@ impl MemDisk {
 
     // A flush that is asked for, and whether it answers Ok.
     fn try_flush(&mut self) -> bool
-        ensures { Asks (state_of self.old) (state_of self.new) result (with_flush (told_of self.old) result) }
+        ensures { Asks (state_of self.old) (state_of self.new) result
+            (with_flush (told_of self.old) result) }
     {
         if self.calls.len() as u64 >= MAX_CALLS {
             count_up(&mut self.faults);
@@ -244,7 +257,8 @@ impl MemDisk {
         picks: &[Pick],
     ) -> Result<Option<Image>, AllocError>
         ensures picks { IfOk result (λ o. IsSome o ↔ ArePicks (told_of self.now) moment picks.now) }
-        ensures image { IfOk result (λ o. IfSome o (IsImageOf (told_of self.now) moment picks.now)) }
+        ensures image { IfOk result
+            (λ o. IfSome o (IsImageOf (told_of self.now) moment picks.now)) }
         ensures left { IfOk result (λ o. IfSome o (model.Left (told_of self.now) moment)) }
     {
         if moment > self.calls.len() as u64 {
@@ -282,7 +296,8 @@ impl Disk for MemDisk {
         requires { at < length (told_of self.old).entry }
         ensures state { IsRead (state_of self.old) (state_of self.new) (is_ok result) }
         ensures bytes { OnOk result (into.new ≡ slice_index_or (told_of self.old).contents at []) }
-        ensures read { HasRead (seen_in (state_of self.old)) (seen_in (state_of self.new)) (is_ok result) }
+        ensures read { HasRead (seen_in (state_of self.old)) (seen_in (state_of self.new))
+            (is_ok result) }
     {
         if self.try_read(at, into) {
             Ok(())
@@ -308,7 +323,8 @@ impl Disk for MemDisk {
     fn flush(&mut self) -> Result<(), DiskFailed>
         ensures state { Asks (state_of self.old) (state_of self.new) (is_ok result)
             (with_flush (told_of self.old) (is_ok result)) }
-        ensures flushed { HasFlushed (seen_in (state_of self.old)) (seen_in (state_of self.new)) (is_ok result) }
+        ensures flushed { HasFlushed (seen_in (state_of self.old)) (seen_in (state_of self.new))
+            (is_ok result) }
     {
         if self.try_flush() {
             Ok(())
@@ -317,7 +333,12 @@ impl Disk for MemDisk {
         }
     }
 
-    ghost in_range = { λ d. record { few_blocks = d.few_blocks; few_calls = d.few_calls; few_reads = d.few_reads; few_faults = d.few_faults } };
+    ghost in_range = { λ d. record {
+      few_blocks = d.few_blocks;
+      few_calls = d.few_calls;
+      few_reads = d.few_reads;
+      few_faults = d.few_faults;
+    } };
 
     ghost told_ok = { λ d. d.recorded };
 }

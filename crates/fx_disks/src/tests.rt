@@ -1,7 +1,7 @@
 use super::*;
 use fx_disk::{Disk, DiskFailed};
 use std::alloc::{AllocError, Global};
-use std::fs::{self, File, Files};
+use std::fs::{self, File, Files, OpenOptions};
 use std::process::Abort;
 use std::test::Fail;
 
@@ -275,5 +275,52 @@ fn keeps_a_file(rt: HostRuntime) -> Result<(), Fail> {
     assert!(rt; FileDisk::on(&rt, path).is_err());
     // a file that cannot be written to
     assert!(rt; FileDisk::on(&rt, "/proc/version").is_err());
+    Ok(())
+}
+
+#[test]
+fn holds_a_file_alone(rt: HostRuntime) -> Result<(), Fail> {
+    let path = "held.img";
+    make_file(&rt, path, 9000)?;
+    let first = FileDisk::on(&rt, path)?;
+    assert!(rt; FileDisk::on(&rt, path).is_err());
+    assert!(rt; FileDisk::to_read(&rt, path).is_err());
+    drop(first);
+    let reader = FileDisk::to_read(&rt, path)?;
+    let second = FileDisk::to_read(&rt, path)?;
+    assert!(rt; FileDisk::on(&rt, path).is_err());
+    drop(reader);
+    drop(second);
+    assert!(rt; FileDisk::on(&rt, path).is_ok());
+    fs::remove_file(&rt, path)?;
+    Ok(())
+}
+
+#[test]
+fn only_reads_where_it_was_opened_to_read(rt: HostRuntime) -> Result<(), Fail> {
+    let path = "read.img";
+    make_file(&rt, path, 9000)?;
+    let mut disk = FileDisk::to_read(&rt, path)?;
+    assert_eq!(rt; ask(&mut disk, 5), 0);
+    assert_eq!(rt; bytes_at(&mut disk, 0), Ok((7, 7)));
+    assert_eq!(rt; (disk.calls(), disk.reads(), disk.faults()), (0, 1, 2));
+    drop(disk);
+    fs::remove_file(&rt, path)?;
+    Ok(())
+}
+
+#[test]
+fn writes_nothing_after_a_failed_sync(rt: HostRuntime) -> Result<(), Fail> {
+    // a device that takes and gives any bytes, and cannot be synced
+    let path = "/dev/zero";
+    assert!(rt; FileDisk::on(&rt, path).is_err());
+    let file = OpenOptions::new().read(true).write(true).open(&rt, path)?;
+    let mut disk = FileDisk::over(file, 8192, true);
+    assert_eq!(rt; ask(&mut disk, 5), 1);
+    assert_eq!(rt; (disk.calls(), disk.faults()), (2, 1));
+    assert_eq!(rt; ask(&mut disk, 5), 0);
+    assert_eq!(rt; (disk.calls(), disk.faults()), (2, 3));
+    assert_eq!(rt; bytes_at(&mut disk, 1), Ok((0, 0)));
+    assert_eq!(rt; (disk.reads(), disk.faults()), (1, 3));
     Ok(())
 }

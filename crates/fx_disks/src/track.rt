@@ -63,7 +63,8 @@ impl Track {
 // The call with this number, in the tracks and in the number of the last successful flush.
 fn step(tracks: &mut Vec<Track>, flushed: u64, number: u64, call: &Made) -> u64
     requires { IsCallOf (length tracks.old.items) (call_of call.now) }
-    ensures tracks { tracks.new.items ≡ tracks_after (call_of call.now) number flushed tracks.old.items }
+    ensures tracks { tracks.new.items
+        ≡ tracks_after (call_of call.now) number flushed tracks.old.items }
     ensures flushed { result ≡ flushed_after (call_of call.now) number flushed }
 {
     match call {

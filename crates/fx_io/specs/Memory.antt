@@ -1,5 +1,5 @@
 -- What the ends in memory are to their callers.
-use Rattle.std.specs.Prelude.{ℕ, ◌+◌, ◌-◌, ◌^◌, List, min}
+use Rattle.std.specs.Prelude.{ℕ, List}
 
 pub record MemorySource : Type 0 where
   -- the bytes that it has not given yet
@@ -22,7 +22,3 @@ pub record MemorySink : Type 0 where
   pub faults : ℕ
   -- the calls that found no memory, which are faults too
   pub starved : ℕ
-
--- a count that stops at the end of a `u64`, one higher
-abbrev pub one_more : ℕ → ℕ
-one_more n = min (n + 1) (2 ^ 64 - 1)

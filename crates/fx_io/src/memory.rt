@@ -1,8 +1,9 @@
 //! A source and a sink in memory, whose calls fail on demand.
 ghost use Rattle.std.specs.Prelude.{None, Some, ◌≡◌, ◌<◌, ◌≤◌, ◌++◌, ◌↔◌, [], length, min, take, Contains, IfOk, IsTrue, IsErr, OnOk, OnErr, is_ok, if◌then◌else◌};
-ghost use Rattle.fx_io.specs.Memory.{one_more};
+ghost use Rattle.fx_base.specs.Causes.{risen};
 
 use super::{Failed, Sink, Source};
+use fx_base::count_up;
 use std::alloc::Global;
 use std::marker::Model;
 
@@ -30,18 +31,18 @@ impl Calls {
     /// Counts one more call, and says whether it is one that fails.
     fn next_fails(&mut self) -> bool
         ensures listed { IsTrue result ↔ Contains self.old.fails.items self.new.made }
-        ensures made { self.new ≡ record self.old { made = one_more self.old.made } }
+        ensures made { self.new ≡ record self.old { made = risen self.old.made } }
     {
-        self.made = self.made.saturating_add(1);
+        count_up(&mut self.made);
         self.fails.contains(&self.made)
     }
 
     /// Counts one more failure.
     fn fail(&mut self) -> Failed
-        ensures failed { self.new ≡ record self.old { failed = one_more self.old.failed } }
+        ensures failed { self.new ≡ record self.old { failed = risen self.old.failed } }
         ensures grows { self.old.failed ≤ self.new.failed }
     {
-        self.failed = self.failed.saturating_add(1);
+        count_up(&mut self.failed);
         Failed
     }
 }
@@ -63,7 +64,13 @@ impl Model for MemSource {
 
     ghost Value = { MemorySource };
 
-    ghost view = { λ s. record { left = drop s.given s.text.items; piece = s.piece; fails = s.calls.fails.items; calls = s.calls.made; faults = s.calls.failed } };
+    ghost view = { λ s. record {
+      left = drop s.given s.text.items;
+      piece = s.piece;
+      fails = s.calls.fails.items;
+      calls = s.calls.made;
+      faults = s.calls.failed;
+    } };
 
     ghost invariant = { λ s. (s.given ≤ length s.text.items) × (0 < s.piece) };
 }
@@ -74,7 +81,13 @@ impl MemSource {
     /// at `u64::MAX`.
     pub fn new(text: Vec<u8>, piece: u32, fails: Vec<u64>) -> MemSource
         requires { 0 < piece }
-        ensures { result ≡ record { left = text.items; piece = piece; fails = fails.items; calls = 0; faults = 0 } }
+        ensures { result ≡ record {
+          left = text.items;
+          piece = piece;
+          fails = fails.items;
+          calls = 0;
+          faults = 0;
+        } }
     {
         MemSource {
             text,
@@ -101,8 +114,8 @@ impl Source for MemSource {
         ensures fails { IsErr result ↔ Contains self.old.fails self.new.calls }
         ensures counts { self.new ≡ record self.old {
           left = self.new.left;
-          calls = one_more self.old.calls;
-          faults = if is_ok result then self.old.faults else one_more self.old.faults;
+          calls = risen self.old.calls;
+          faults = if is_ok result then self.old.faults else risen self.old.faults;
         } }
         ensures grows { self.old.faults ≤ self.new.faults }
     {
@@ -137,7 +150,14 @@ impl Model for MemSink {
 
     ghost Value = { MemorySink };
 
-    ghost view = { λ s. record { text = s.text.items; piece = s.piece; fails = s.calls.fails.items; calls = s.calls.made; faults = s.calls.failed; starved = s.starved } };
+    ghost view = { λ s. record {
+      text = s.text.items;
+      piece = s.piece;
+      fails = s.calls.fails.items;
+      calls = s.calls.made;
+      faults = s.calls.failed;
+      starved = s.starved;
+    } };
 
     ghost invariant = { λ s. 0 < s.piece };
 }
@@ -148,7 +168,14 @@ impl MemSink {
     /// calls, of faults and of calls without memory stop at `u64::MAX`. Takes no memory.
     pub fn new(alloc: Global, piece: u32, fails: Vec<u64>) -> MemSink
         requires { 0 < piece }
-        ensures { result ≡ record { text = []; piece = piece; fails = fails.items; calls = 0; faults = 0; starved = 0 } }
+        ensures { result ≡ record {
+          text = [];
+          piece = piece;
+          fails = fails.items;
+          calls = 0;
+          faults = 0;
+          starved = 0;
+        } }
     {
         MemSink {
             text: Vec::new(alloc),
@@ -188,11 +215,12 @@ impl Sink for MemSink {
         ensures listed { Contains self.old.fails self.new.calls
             → self.new.starved ≡ self.old.starved }
         ensures unlisted { ¬ (Contains self.old.fails self.new.calls)
-            → self.new.starved ≡ (if is_ok result then self.old.starved else one_more self.old.starved) }
+            → self.new.starved ≡ (if is_ok result then self.old.starved
+            else risen self.old.starved) }
         ensures counts { self.new ≡ record self.old {
           text = self.new.text;
-          calls = one_more self.old.calls;
-          faults = if is_ok result then self.old.faults else one_more self.old.faults;
+          calls = risen self.old.calls;
+          faults = if is_ok result then self.old.faults else risen self.old.faults;
           starved = self.new.starved;
         } }
         ensures grows { self.old.faults ≤ self.new.faults }
@@ -202,7 +230,7 @@ impl Sink for MemSink {
         }
         let count = piece.len().min(self.piece as usize);
         if self.text.extend_from_slice(&piece[..count]).is_err() {
-            self.starved = self.starved.saturating_add(1);
+            count_up(&mut self.starved);
             return Err(self.calls.fail());
         }
         Ok(count)

@@ -4,6 +4,7 @@ ghost use Rattle.std.specs.Io.KnownBytes.{Keeps, Consumes, ReadConsumes, IsAtEnd
 ghost use Rattle.fx_base.specs.Causes.{CountsFault};
 
 use super::{Failed, Sink, Source};
+use fx_base::count_up;
 use std::alloc::{AllocError, Global};
 use std::io::{BufReader, ErrorKind, Read};
 use std::marker::Model;
@@ -23,7 +24,10 @@ impl<R: Read + Drop> Model for StdSource<R> {
 
     ghost Value = { ReaderSource };
 
-    ghost view = { λ s. record { left = reader_remaining R.Read.remaining s.reader; faults = s.faults } };
+    ghost view = { λ s. record {
+      left = reader_remaining R.Read.remaining s.reader;
+      faults = s.faults;
+    } };
 }
 
 impl<R: Read + Drop> StdSource<R> {
@@ -52,7 +56,7 @@ impl<R: Read + Drop> Source for StdSource<R> {
         match read_some(&mut self.reader, into) {
             Some(count) => Ok(count),
             None => {
-                self.faults = self.faults.saturating_add(1);
+                count_up(&mut self.faults);
                 Err(Failed)
             }
         }
@@ -115,7 +119,7 @@ impl<P: Print + Drop> Sink for StdSink<P> {
         match write_some(&self.out, piece) {
             Some(count) => Ok(count),
             None => {
-                self.faults = self.faults.saturating_add(1);
+                count_up(&mut self.faults);
                 Err(Failed)
             }
         }
