@@ -1,5 +1,5 @@
 -- The children of a node, found one after another.
-use Rattle.std.proofs.Common.{◌≡◌, ◌≢◌, ◌⊎◌, inl, inr, ℕ, ◌<◌, ◌≤◌, ◌++◌, List, [], ◌∷◌, length, refl, sym, ap, subst, ◌∙◌, arith, Bool, true, false, cond, get_or, zero, suc}
+use Rattle.std.proofs.Common.{◌≡◌, ◌≢◌, inl, inr, ℕ, ◌<◌, ◌≤◌, ◌++◌, List, [], ◌∷◌, length, refl, sym, ap, subst, ◌∙◌, arith, Bool, true, false, cond, get_or, zero, suc}
 use Rattle.std.specs.Prelude.{Option, Some, None, IfSome, IsTrue, slice_get, count_by, Contains, ◌==◌, ◌&&◌}
 use Rattle.std.specs.Ordering.{is_le}
 use Rattle.std.specs.declared.cmp.Ordering.TheVariants.{Less}
@@ -11,7 +11,8 @@ use Rattle.fx_item.specs.Look.{ItemMap, FindsFrom, IsFirstFrom}
 use Rattle.fx_item.specs.Name.{name_cmp}
 use Rattle.fx_item.specs.Order.{key_cmp, rank}
 use Rattle.fx_item.specs.declared.lock.LockKey.{LockKey}
-use Rattle.fx_dir.specs.Children.{AreChildren, IsChild, IsFirstChild, child_name, name_under}
+use Rattle.fx_dir.specs.Children.{AreChildren, IsChild, IsFirstChild, child_name_at, name_under}
+use Rattle.fx_base.proofs.Lists.{got_kept, got_last, got_split}
 use Rattle.fx_dir.proofs.Order.{IsUpTo, below_from_test, below_next, below_or_up_to, child_between, children_in_order, cmp, less_up_to, not_up_to, up_to, up_to_from_next, up_to_itself, up_to_both}
 
 -- ---- the first child, by the first item
@@ -62,7 +63,7 @@ module _ (m : ItemMap) (at : LockKey) (from : List ℕ) where
     by_key (GraveKey store id) e = no_child (λ c q. cc (sym e ∙ q))
     by_key (AllocationKey start stop) e = no_child (λ c q. cc (sym e ∙ q))
 
-  pub first_child : (item : Option PlainItem) → FindsFrom m (ChildKey at.store at.id from) item → IsFirstChild m at from (child_name at item)
+  pub first_child : (item : Option PlainItem) → FindsFrom m (ChildKey at.store at.id from) item → IsFirstChild m at from (child_name_at at item)
   first_child None f = no_item f
   first_child (Some x) f = by_key x f x.key refl
 
@@ -87,21 +88,6 @@ none_before m at from names f e = subst (λ z. AreBefore m at z names) (sym f) (
   rising = λ i j x y l g h. absurd (cc g);
 }))
 
-split : {X : Type 0} (xs : List X) (last : X) (i : ℕ) (x : X) → slice_get (xs ++ last ∷ []) i ≡ Some x → (slice_get xs i ≡ Some x) ⊎ ((i ≡ length xs) × (last ≡ x))
-split [] last zero x e = inr (refl, cc)
-split [] last (suc i) x e = cc
-split (y ∷ xs) last zero x e = inl e
-split (y ∷ xs) last (suc i) x e = elim (split xs last i x e) [ inl a ↦ inl a | inr a ↦ inr (ap suc a.0, a.1) ]
-
-kept : {X : Type 0} (xs : List X) (last : X) (i : ℕ) (x : X) → slice_get xs i ≡ Some x → slice_get (xs ++ last ∷ []) i ≡ Some x
-kept [] last i x e = absurd (cc e)
-kept (y ∷ xs) last zero x e = e
-kept (y ∷ xs) last (suc i) x e = kept xs last i x e
-
-last_got : {X : Type 0} (xs : List X) (last : X) → slice_get (xs ++ last ∷ []) (length xs) ≡ Some last
-last_got [] last = refl
-last_got (y ∷ xs) last = last_got xs last
-
 module _ {m : ItemMap} {at : LockKey} {from : List ℕ} {names : List (List ℕ)} (b : AreBefore m at from names) where
   pub all_children : IsFirstChild m at from None → AreChildren m at names
   all_children f = record { there = b.there; all = λ name child. b.all name child (f name child); rising = b.rising }
@@ -112,21 +98,21 @@ module _ {m : ItemMap} {at : LockKey} {from : List ℕ} {names : List (List ℕ)
 
     found : (x : List ℕ) → IsChild m at x → cmp x (name ++ 0 ∷ []) ≡ Less → (i : ℕ) × (slice_get (names ++ name ∷ []) i ≡ Some x)
     found x child l = elim (f.2 x child) [
-      | inl a ↦ let i = b.all x child a in (i.0, kept names name i.0 x i.1)
-      | inr a ↦ (length names, last_got names name ∙ ap Some (up_to_both name x a (up_to_from_next x name l)))
+      | inl a ↦ let i = b.all x child a in (i.0, got_kept names name i.0 x i.1)
+      | inr a ↦ (length names, got_last names name ∙ ap Some (up_to_both name x a (up_to_from_next x name l)))
     ]
 
     pub one_more : AreBefore m at (name ++ 0 ∷ []) (names ++ name ∷ [])
     one_more = record {
-      there = λ i x g. elim (split names name i x g) [ inl a ↦ b.there i x a | inr a ↦ subst (IsChild m at) a.1 f.0 ];
+      there = λ i x g. elim (got_split names name i x g) [ inl a ↦ b.there i x a | inr a ↦ subst (IsChild m at) a.1 f.0 ];
       all = found;
-      below = λ i x g. elim (split names name i x g) [
+      below = λ i x g. elim (got_split names name i x g) [
         | inl a ↦ below_next x name (up_to x name (old_below x (b.below i x a)))
         | inr a ↦ subst (λ z. cmp z (name ++ 0 ∷ []) ≡ Less) a.1 (below_next name name (up_to_itself name))
       ];
-      rising = λ i j x y l g h. elim (split names name j y h) [
-        | inl c ↦ elim (split names name i x g) [ inl a ↦ b.rising i j x y l a c | inr a ↦ absurd (omega (arith, a.0, slice_get_within names j y c, l)) ]
-        | inr c ↦ elim (split names name i x g) [ inl a ↦ ap (cmp x) (sym c.1) ∙ old_below x (b.below i x a) | inr a ↦ absurd (omega (arith, a.0, c.0, l)) ]
+      rising = λ i j x y l g h. elim (got_split names name j y h) [
+        | inl c ↦ elim (got_split names name i x g) [ inl a ↦ b.rising i j x y l a c | inr a ↦ absurd (omega (arith, a.0, slice_get_within names j y c, l)) ]
+        | inr c ↦ elim (got_split names name i x g) [ inl a ↦ ap (cmp x) (sym c.1) ∙ old_below x (b.below i x a) | inr a ↦ absurd (omega (arith, a.0, c.0, l)) ]
       ];
     }
 

@@ -1,43 +1,22 @@
 -- The first item from a key on, looked for in a list item by item.
-use Rattle.std.proofs.Common.{◌≡◌, ◌⊎◌, inl, inr, ℕ, ◌+◌, ◌<◌, ◌≤◌, ◌++◌, List, [], ◌∷◌, length, map, take, drop, drop-cons, get_or, add-one, refl, sym, ap, subst, ◌∙◌, arith, Bool, true, false, cond, zero, suc}
+use Rattle.std.proofs.Common.{◌≡◌, ◌⊎◌, inl, inr, ℕ, ◌+◌, ◌<◌, ◌≤◌, ◌++◌, List, [], ◌∷◌, length, map, take, drop, drop-cons, get_or, add-one, refl, sym, ap, subst, ◌∙◌, arith, Bool, true, false, cond, suc}
 use Rattle.std.proofs.Math.Seq.{take-suc}
 use Rattle.std.proofs.lemmas.List.{drop_all, map-append}
 use Rattle.std.specs.Prelude.{Option, Some, None, IsTrue, Contains}
 use Rattle.std.specs.Cmp.{tied_itself}
 use Rattle.std.specs.Cmp.Lexicographic.{nat_list_cmp_total}
-use Rattle.std.specs.Ordering.{is_eq, is_gt, is_le, is_lt, ordering_reverse}
+use Rattle.std.specs.Ordering.{is_eq, is_gt, is_le, is_lt}
 use Rattle.std.specs.declared.cmp.Ordering.{Ordering}
 use Rattle.std.specs.declared.cmp.Ordering.TheVariants.{Less, Equal, Greater}
-use Rattle.fx_item.specs.Item.{PlainKey, ObjectKey, AttributeKey, ExtentKey, ChildKey, GraveKey, AllocationKey, PlainItem, PlainValue, key_of, value_of, item_of}
+use Rattle.fx_item.specs.Item.{PlainKey, PlainItem, PlainValue, key_of, value_of, item_of}
 use Rattle.fx_item.specs.declared.item.Item.{Item}
 use Rattle.fx_item.specs.Look.{FindsFrom, IsFirstFrom, is_from, value_in}
 use Rattle.fx_item.specs.Order.{key_cmp, rank}
 use Rattle.fx_item.specs.declared.item.Key.{Key}
 use Rattle.fx_item.specs.declared.item.Key.TheVariants as keys
-use Rattle.fx_dir.proofs.Order.{exact, up_to, up_to_itself, less_up_to, not_below_itself}
-
--- ---- keys that compare equal are equal
-
-unrank : List ℕ → PlainKey
-unrank (zero ∷ s ∷ i ∷ suc zero ∷ r) = ObjectKey s i
-unrank (zero ∷ s ∷ i ∷ suc (suc zero) ∷ r) = AttributeKey s i r
-unrank (zero ∷ s ∷ i ∷ suc (suc (suc zero)) ∷ a ∷ b ∷ r) = ExtentKey s i a b
-unrank (zero ∷ s ∷ i ∷ suc (suc (suc (suc zero))) ∷ r) = ChildKey s i r
-unrank (zero ∷ s ∷ i ∷ suc (suc (suc (suc (suc zero)))) ∷ r) = GraveKey s i
-unrank (suc zero ∷ a ∷ b ∷ r) = AllocationKey a b
-unrank r = AllocationKey 0 0
-
-unrank-rank : (k : PlainKey) → unrank (rank k) ≡ k
-unfolding unrank
-unrank-rank (ObjectKey s i) = refl
-unrank-rank (AttributeKey s i name) = refl
-unrank-rank (ExtentKey s i a b) = refl
-unrank-rank (ChildKey s i name) = refl
-unrank-rank (GraveKey s i) = refl
-unrank-rank (AllocationKey a b) = refl
-
-pub keys_exact : (j k : PlainKey) → key_cmp j k ≡ Equal → j ≡ k
-keys_exact j k e = sym (unrank-rank j) ∙ ap unrank (exact (rank j) (rank k) e) ∙ unrank-rank k
+use Rattle.fx_base.proofs.Orderings.{less_from, not_less_reverse, not_up_to_from, up_to_from}
+use Rattle.fx_item.proofs.KeyOrder.{keys_exact}
+use Rattle.fx_dir.proofs.Order.{up_to, up_to_itself, less_up_to, not_below_itself}
 
 -- ---- one more item
 
@@ -144,37 +123,17 @@ pub next_items : (items : List Item) (i : ℕ) (x : Item) → i < length items �
 next_items items i x less is =
     ap (λ n. map item_of (take n items)) (add-one i) ∙ ap (map item_of) (take-suc items i x less ∙ ap (λ y. take i items ++ y ∷ []) (sym is)) ∙ map-append item_of (take i items) (x ∷ [])
 
-above_test : (r : Ordering) → is_gt r ≡ true → is_le r ≡ false
-above_test Greater e = refl
-above_test Equal e = absurd (cc e)
-above_test Less e = absurd (cc e)
-
-up_to_from_above : (r : Ordering) → is_gt r ≡ false → is_le r ≡ true
-up_to_from_above Less e = refl
-up_to_from_above Equal e = refl
-up_to_from_above Greater e = absurd (cc e)
-
-below_test : (r : Ordering) → is_lt r ≡ true → r ≡ Less
-below_test Less e = refl
-below_test Equal e = absurd (cc e)
-below_test Greater e = absurd (cc e)
-
-not_below_test : (r s : Ordering) → s ≡ ordering_reverse r → is_lt r ≡ false → is_le s ≡ true
-not_below_test Less s back e = absurd (cc e)
-not_below_test Equal s back e = ap is_le back
-not_below_test Greater s back e = ap is_le back
-
 pub passed_over : (xs : List PlainItem) (x : PlainItem) (key : Key) (best : Option PlainItem) → is_gt (key_cmp (key_of key) x.key) ≡ true → FindsFrom (value_in xs) (key_of key) best → FindsFrom (value_in (xs ++ x ∷ [])) (key_of key) best
-passed_over xs x key best e f = skipped xs x (key_of key) best (from_is key x.key ∙ above_test (key_cmp (key_of key) x.key) e) f
+passed_over xs x key best e f = skipped xs x (key_of key) best (from_is key x.key ∙ not_up_to_from (key_cmp (key_of key) x.key) e) f
 
 pub first_one : (xs : List PlainItem) (x : PlainItem) (key : Key) → is_gt (key_cmp (key_of key) x.key) ≡ false → FindsFrom (value_in xs) (key_of key) None → FindsFrom (value_in (xs ++ x ∷ [])) (key_of key) (Some x)
-first_one xs x key e f = first_found xs x (key_of key) (from_is key x.key ∙ up_to_from_above (key_cmp (key_of key) x.key) e) f
+first_one xs x key e f = first_found xs x (key_of key) (from_is key x.key ∙ up_to_from (key_cmp (key_of key) x.key) e) f
 
 pub new_first : (xs : List PlainItem) (x b : PlainItem) (key : Key) → is_gt (key_cmp (key_of key) x.key) ≡ false → is_lt (key_cmp x.key b.key) ≡ true → FindsFrom (value_in xs) (key_of key) (Some b) → FindsFrom (value_in (xs ++ x ∷ [])) (key_of key) (Some x)
-new_first xs x b key e l f = earlier xs x (key_of key) b (from_is key x.key ∙ up_to_from_above (key_cmp (key_of key) x.key) e) (below_test (key_cmp x.key b.key) l) f
+new_first xs x b key e l f = earlier xs x (key_of key) b (from_is key x.key ∙ up_to_from (key_cmp (key_of key) x.key) e) (less_from (key_cmp x.key b.key) l) f
 
 pub same_first : (xs : List PlainItem) (x b : PlainItem) (key : Key) → is_lt (key_cmp x.key b.key) ≡ false → FindsFrom (value_in xs) (key_of key) (Some b) → FindsFrom (value_in (xs ++ x ∷ [])) (key_of key) (Some b)
-same_first xs x b key l f = later xs x (key_of key) b (not_below_test (key_cmp x.key b.key) (key_cmp b.key x.key) (nat_list_cmp_total.antisymm (rank b.key) (rank x.key)) l) f
+same_first xs x b key l f = later xs x (key_of key) b (not_less_reverse (key_cmp x.key b.key) (key_cmp b.key x.key) (nat_list_cmp_total.antisymm (rank b.key) (rank x.key)) l) f
 
 -- where something stands, its key is among the keys
 pub has_key : (items : List Item) (key : PlainKey) (value : PlainValue) → value_in (map item_of items) key ≡ Some value → Contains (map (λ (x : Item). key_of x.key) items) key

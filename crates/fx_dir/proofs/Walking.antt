@@ -1,10 +1,11 @@
 -- A walk along a path, name by name.
-use Rattle.std.proofs.Common.{◌≡◌, ◌⊎◌, inl, inr, ℕ, ◌+◌, ◌<◌, ◌≤◌, ◌++◌, List, [], ◌∷◌, length, length-append, take, refl, sym, ap, ◌∙◌, arith, get_or, add-one, Bool, true, false, cond, zero, suc}
-use Rattle.std.specs.Prelude.{Option, Some, None, slice_get, option_map, option_and_then, nat_lt}
+use Rattle.std.proofs.Common.{◌≡◌, ◌⊎◌, inl, inr, ℕ, ◌+◌, ◌<◌, ◌≤◌, ◌++◌, List, [], ◌∷◌, length, length-append, take, refl, sym, ap, ◌∙◌, arith, get_or, add-one, Bool, true, false, cond, suc}
+use Rattle.std.specs.Prelude.{Option, Some, None, option_map, option_and_then, nat_lt}
 use Rattle.std.proofs.Math.Seq.{take-suc}
 use Rattle.std.proofs.lemmas.Bool.Decides.{leb_tells}
 use Rattle.std.proofs.lemmas.List.{take_all}
 use Rattle.std.proofs.lemmas.Option.{some_pair_parts}
+use Rattle.fx_base.proofs.Lists.{got_split}
 use Rattle.fx_item.specs.Look.{ItemMap}
 use Rattle.fx_item.specs.declared.lock.LockKey.{LockKey}
 use Rattle.fx_plain.specs.declared.kind.Kind.{Kind}
@@ -33,13 +34,6 @@ pub is_file : (kind : Kind) → true ≡ sameb contracts.the_type kind File → 
 is_file Dir e = absurd (cc e)
 is_file File e = refl
 
--- what stands in a list with one more stood there before, or is the last
-split : {X : Type 0} (xs : List X) (last : X) (i : ℕ) (x : X) → slice_get (xs ++ last ∷ []) i ≡ Some x → (slice_get xs i ≡ Some x) ⊎ ((i ≡ length xs) × (last ≡ x))
-split [] last zero x e = inr (refl, cc)
-split [] last (suc i) x e = cc
-split (y ∷ xs) last zero x e = inl e
-split (y ∷ xs) last (suc i) x e = elim (split xs last i x e) [ inl a ↦ inl a | inr a ↦ inr (ap suc a.0, a.1) ]
-
 module _ {m : ItemMap} {path : List (List ℕ)} {i : ℕ} {dirs : List LockKey} {at : LockKey} {kind : Kind} (w : IsWalkTo m path i dirs at kind) where
   pub ends_at_file : kind ≡ File → i < length path → EndsAfter m path (length dirs) (Stopped NotDir)
   ends_at_file file less =
@@ -53,11 +47,11 @@ module _ {m : ItemMap} {path : List (List ℕ)} {i : ℕ} {dirs : List LockKey} 
   module _ (dir : kind ≡ Dir) where
     pub through_one_more : GoesThrough m path (dirs ++ at ∷ [])
     through_one_more = record {
-      node = λ j d e. elim (split dirs at j d e) [
+      node = λ j d e. elim (got_split dirs at j d e) [
         | inl a ↦ w.through.node j d a
         | inr a ↦ ap (λ n. node_at m (take n path)) (a.0 ∙ w.count) ∙ w.node ∙ ap Some a.1
       ];
-      kind = λ j d e. elim (split dirs at j d e) [
+      kind = λ j d e. elim (got_split dirs at j d e) [
         | inl a ↦ w.through.kind j d a
         | inr a ↦ ap (kind_of m) (sym a.1) ∙ w.is_kind ∙ ap Some dir
       ];

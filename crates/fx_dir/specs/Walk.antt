@@ -31,15 +31,18 @@ refusal_of (Some File) = Some NotDir
 
 -- the nodes that the first 0, 1, 2 .. names of a path lead to, all directories
 pub record GoesThrough (m : ItemMap) (path : List (List ℕ)) (dirs : List LockKey) : Type 0 where
-  pub node : (i : ℕ) (dir : LockKey) → slice_get dirs i ≡ Some dir → node_at m (take i path) ≡ Some dir
+  pub node : (i : ℕ) (dir : LockKey) → slice_get dirs i ≡ Some dir
+      → node_at m (take i path) ≡ Some dir
   pub kind : (i : ℕ) (dir : LockKey) → slice_get dirs i ≡ Some dir → kind_of m dir ≡ Some Dir
 
 -- Where a walk that goes through n directories ends: at the path's own node, or at the path where nothing
 -- is there; or before that, at what is no directory.
 abbrev pub EndsAfter : ItemMap → List (List ℕ) → ℕ → WalkEnd → Type 0
-EndsAfter m path n (Node node kind) = (n ≡ length path) × (node_at m path ≡ Some node) × (kind_of m node ≡ Some kind)
+EndsAfter m path n (Node node kind) =
+    (n ≡ length path) × (node_at m path ≡ Some node) × (kind_of m node ≡ Some kind)
 EndsAfter m path n Missing = (n ≡ length path) × (kind_at m path ≡ None)
-EndsAfter m path n (Stopped refusal) = (n < length path) × (refusal_of (kind_at m (take n path)) ≡ Some refusal)
+EndsAfter m path n (Stopped refusal) =
+    (n < length path) × (refusal_of (kind_at m (take n path)) ≡ Some refusal)
 
 abbrev pub kind_in_tree : plain.Node → Kind
 kind_in_tree (plain.Dir attributes) = Dir
@@ -47,6 +50,7 @@ kind_in_tree (plain.File contents attributes) = File
 
 -- What the walk of a tree meets, and what the tree has at the path.
 abbrev pub EndsInTree : Tree → List (List ℕ) → WalkEnd → Type 0
-EndsInTree tree path (Node node kind) = (walk tree path ≡ None) × (option_map kind_in_tree (get tree path) ≡ Some kind)
+EndsInTree tree path (Node node kind) =
+    (walk tree path ≡ None) × (option_map kind_in_tree (get tree path) ≡ Some kind)
 EndsInTree tree path Missing = (walk tree path ≡ None) × (get tree path ≡ None)
 EndsInTree tree path (Stopped refusal) = walk tree path ≡ Some refusal

@@ -4,7 +4,7 @@ ghost use Rattle.fx_plain.specs.Tree.{Tree, children};
 ghost use Rattle.fx_namespace.specs.Nodes.{Stands, node_at};
 ghost use Rattle.fx_namespace.specs.Trees.{Holdings, IsTreeOf};
 ghost use Rattle.fx_item.specs.Item.{ChildKey, item_of};
-ghost use Rattle.fx_dir.specs.Children.{AreChildren, IsFirstChild, child_name};
+ghost use Rattle.fx_dir.specs.Children.{AreChildren, IsFirstChild, child_name_at};
 
 use fx_item::{Item, Key, LockKey, Look, LookFault, Name};
 use fx_plain::Names;
@@ -14,8 +14,9 @@ use std::alloc::{AllocError, Global};
 pub fn names<L: Look>(alloc: Global, look: &L, at: LockKey) -> Result<Names, LookFault>
     ensures items { IfOk result (λ names. AreChildren (L.items look.now) at names) }
     // Where the items stand and make a tree, these are that tree's children at each path to the node.
-    ensures tree { IfOk result (λ names. (path : List (List ℕ)) (h : Holdings) (t : Tree) →
-        Stands (L.items look.now) → IsTreeOf (L.items look.now) h t → node_at (L.items look.now) path ≡ Some at → names ≡ children t path) }
+    ensures tree { IfOk result (λ names. (path : List (List ℕ)) (h : Holdings) (t : Tree)
+        → Stands (L.items look.now) → IsTreeOf (L.items look.now) h t
+        → node_at (L.items look.now) path ≡ Some at → names ≡ children t path) }
 {
     let mut names = Vec::new(alloc);
     let mut from = Name::new(Vec::new(alloc));
@@ -34,7 +35,9 @@ fn next_child<L: Look>(
     from: Name,
 ) -> Result<Option<Name>, LookFault>
     ensures first { IfOk result (λ found. IsFirstChild (L.items look.now) at from found) }
-    ensures listed { IfOk result (λ found. IfSome found (λ name. Contains (L.keys look.now) (ChildKey at.store at.id name))) }
+    ensures listed { IfOk result
+        (λ found. IfSome found
+        (λ name. Contains (L.keys look.now) (ChildKey at.store at.id name))) }
 {
     let key = Key::Child {
         store: at.store,
@@ -46,7 +49,7 @@ fn next_child<L: Look>(
 
 /// The name under which an item is a child of a node, if it is one.
 fn child_name(at: LockKey, item: Option<Item>) -> Option<Name>
-    ensures { result ≡ child_name at (option_map item_of item) }
+    ensures { result ≡ child_name_at at (option_map item_of item) }
 {
     let Some(item) = item else {
         return None;

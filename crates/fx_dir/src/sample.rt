@@ -50,8 +50,10 @@ fn told(value: Value) -> Result<Option<Value>, LookFault>
 
 /// The earlier one of two items from a key on, or the first that is found.
 fn earlier<'a>(key: &Key, best: Option<&'a Item>, item: &'a Item) -> Option<&'a Item>
-    ensures { (xs : List PlainItem) → FindsFrom (value_in xs) (key_of key.now) (option_map item_of (option_copied best.entry)) →
-        FindsFrom (value_in (xs ++ item_of item.now ∷ [])) (key_of key.now) (option_map item_of (option_copied result)) }
+    ensures { (xs : List PlainItem) → FindsFrom (value_in xs) (key_of key.now)
+        (option_map item_of (option_copied best.entry))
+        → FindsFrom (value_in (xs ++ item_of item.now ∷ [])) (key_of key.now)
+        (option_map item_of (option_copied result)) }
 {
     if key.cmp(&item.key).is_gt() {
         return best;

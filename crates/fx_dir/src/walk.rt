@@ -37,9 +37,11 @@ pub enum WalkEnd {
 pub fn walk_path<L: Look>(alloc: Global, look: &L, path: &Path) -> Result<Walk, LookFault>
     // It went through all directories on the way, up to where it ended.
     ensures through { IfOk result (λ walk. GoesThrough (L.items look.now) path.now walk.dirs) }
-    ensures end { IfOk result (λ walk. EndsAfter (L.items look.now) path.now (length walk.dirs) walk.end) }
+    ensures end { IfOk result
+        (λ walk. EndsAfter (L.items look.now) path.now (length walk.dirs) walk.end) }
     // The walk of the tree that the items make meets the same.
-    ensures tree { IfOk result (λ walk. (h : Holdings) (t : Tree) → IsTreeOf (L.items look.now) h t → EndsInTree t path.now walk.end) }
+    ensures tree { IfOk result (λ walk. (h : Holdings) (t : Tree) → IsTreeOf (L.items look.now) h t
+        → EndsInTree t path.now walk.end) }
 {
     let names = path.as_slice();
     let mut dirs = Vec::new(alloc);
@@ -71,7 +73,8 @@ pub fn walk_path<L: Look>(alloc: Global, look: &L, path: &Path) -> Result<Walk, 
 
 /// Where a walk ends whose next node is missing.
 fn nothing_after(dirs: usize, names: usize) -> WalkEnd
-    ensures { result ≡ (if nat_lt dirs names then WalkEnd.Stopped Refusal.NotFound else WalkEnd.Missing) }
+    ensures { result ≡ (if nat_lt dirs names then WalkEnd.Stopped Refusal.NotFound
+        else WalkEnd.Missing) }
 {
     if dirs < names {
         return WalkEnd::Stopped(Refusal::NotFound);

@@ -19,7 +19,8 @@ use Rattle.fx_item.specs.declared.item.Key.TheVariants as keys
 use Rattle.fx_item.specs.declared.item.Value.{Value}
 use Rattle.fx_item.specs.declared.item.Value.TheVariants as values
 use Rattle.fx_nodes.specs.Table.{AreKept, items_in}
-use Rattle.fx_nodes.proofs.Keys.{at, at_apart, at_back, covers_at, item_keys, keys_exact, same_at}
+use Rattle.fx_item.proofs.KeyOrder.{keys_exact}
+use Rattle.fx_nodes.proofs.Keys.{at, at_apart, at_back, covers_at, item_keys, same_at}
 
 abbrev pub Entries : Type 0
 Entries = List (Key × Value)

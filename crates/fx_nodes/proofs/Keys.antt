@@ -1,56 +1,28 @@
 -- The order of keys: keys that compare equal are equal, and the test of `covers` is that of the order.
-use Rattle.std.proofs.Common.{◌≡◌, ℕ, List, [], ◌∷◌, map, refl, sym, ap, ◌∙◌, Bool, true, false, zero, suc}
+use Rattle.std.proofs.Common.{◌≡◌, List, [], ◌∷◌, map, refl, sym, ◌∙◌, Bool, true, false}
 use Rattle.std.specs.Prelude.{nat_eq, IsTrue, ◌&&◌, ◌==◌}
-use Rattle.std.specs.Cmp.{eq_by_cmp_equiv, IsTotalOrder}
-use Rattle.std.specs.Cmp.Lexicographic.{pointwise, texts_ties, on_texts}
+use Rattle.std.specs.Cmp.{eq_by_cmp_equiv}
+use Rattle.std.specs.Cmp.Lexicographic.{pointwise, texts_ties}
 use Rattle.std.specs.Ordering.{is_eq, is_lt}
-use Rattle.std.specs.declared.cmp.Ordering.{Ordering}
-use Rattle.std.specs.declared.cmp.Ordering.TheVariants.{Less, Equal, Greater}
+use Rattle.std.specs.declared.cmp.Ordering.TheVariants.{Less}
 use Rattle.std.specs.List.{AllByRecursion}
 use Rattle.std.specs.List.Sorted.{IsStrictlySortedBy}
 use Rattle.std.proofs.lemmas.Bool.{and_parts}
-use Rattle.std.proofs.lemmas.Map.Lookups.{exact_bytes}
+use Rattle.fx_base.proofs.Orderings as orderings
+use Rattle.fx_base.proofs.TotalOrders.{apart_no_tie, tie_same}
+use Rattle.fx_item.proofs.KeyOrder.{keys_exact, keys_total}
 use Rattle.fx_item.specs.Item.{PlainKey, ObjectKey, AttributeKey, ExtentKey, ChildKey, GraveKey, AllocationKey, PlainItem, key_of}
 use Rattle.fx_item.specs.Order.{key_cmp, rank, is_ascending, may_follow}
 use Rattle.fx_item.specs.Overlay.{covers, AtKey}
 use Rattle.fx_item.specs.declared.item.Key.{Key}
 use Rattle.fx_item.specs.declared.item.Key.TheVariants as keys
 
-unrank : List ℕ → PlainKey
-unrank (zero ∷ s ∷ i ∷ suc zero ∷ r) = ObjectKey s i
-unrank (zero ∷ s ∷ i ∷ suc (suc zero) ∷ r) = AttributeKey s i r
-unrank (zero ∷ s ∷ i ∷ suc (suc (suc zero)) ∷ a ∷ b ∷ r) = ExtentKey s i a b
-unrank (zero ∷ s ∷ i ∷ suc (suc (suc (suc zero))) ∷ r) = ChildKey s i r
-unrank (zero ∷ s ∷ i ∷ suc (suc (suc (suc (suc zero)))) ∷ r) = GraveKey s i
-unrank (suc zero ∷ a ∷ b ∷ r) = AllocationKey a b
-unrank r = AllocationKey 0 0
-
-unrank-rank : (k : PlainKey) → unrank (rank k) ≡ k
-unfolding unrank
-unrank-rank (ObjectKey s i) = refl
-unrank-rank (AttributeKey s i name) = refl
-unrank-rank (ExtentKey s i a b) = refl
-unrank-rank (ChildKey s i name) = refl
-unrank-rank (GraveKey s i) = refl
-unrank-rank (AllocationKey a b) = refl
-
-pub keys_total : IsTotalOrder key_cmp
-keys_total = on_texts rank
-
-pub keys_exact : (j k : PlainKey) → key_cmp j k ≡ Equal → j ≡ k
-keys_exact j k e = sym (unrank-rank j) ∙ ap unrank (exact_bytes (rank j) (rank k) e) ∙ unrank-rank k
-
 -- the test that two keys compare equal
 abbrev pub at : PlainKey → PlainKey → Bool
 at j k = is_eq (key_cmp j k)
 
-equal_from : (r : Ordering) → is_eq r ≡ true → r ≡ Equal
-equal_from Equal e = refl
-equal_from Less e = cc
-equal_from Greater e = cc
-
 pub same_at : (j k : PlainKey) → at j k ≡ true → j ≡ k
-same_at j k e = keys_exact j k (equal_from (key_cmp j k) e)
+same_at = tie_same keys_total keys_exact
 
 pub at_itself : (k : PlainKey) → at k k ≡ true
 at_itself k = (eq_by_cmp_equiv keys_total).refl k
@@ -59,11 +31,7 @@ pub at_back : (j k : PlainKey) → at j k ≡ at k j
 at_back j k = (eq_by_cmp_equiv keys_total).symm j k
 
 pub at_apart : (j k : PlainKey) → (j ≡ k → ⊥) → at j k ≡ false
-at_apart j k ne = by_test (at j k) refl
-  where
-    by_test : (b : Bool) → at j k ≡ b → at j k ≡ false
-    by_test true e = absurd (ne (same_at j k e))
-    by_test false e = e
+at_apart = apart_no_tie keys_total keys_exact
 
 -- the test by numbers is that of the order
 ranked : (j k : PlainKey) → pointwise nat_eq (rank j) (rank k) ≡ at j k
@@ -98,12 +66,7 @@ abbrev pub item_keys : List PlainItem → List PlainKey
 item_keys items = map (λ x. x.key) items
 
 less_from : (j k : PlainKey) → IsTrue (may_follow j k) → key_cmp j k ≡ Less
-less_from j k h = by_order (key_cmp j k) (and_parts (is_lt (key_cmp j k)) _ h).0
-  where
-    by_order : (r : Ordering) → is_lt r ≡ true → r ≡ Less
-    by_order Less e = refl
-    by_order Equal e = cc
-    by_order Greater e = cc
+less_from j k h = orderings.less_from (key_cmp j k) (and_parts (is_lt (key_cmp j k)) _ h).0
 
 below_all : (j k : PlainKey) (ks : List PlainKey) → key_cmp j k ≡ Less → AllByRecursion (λ q. key_cmp k q ≡ Less) ks → AllByRecursion (λ q. key_cmp j q ≡ Less) ks
 below_all j k [] l h = tt

@@ -18,10 +18,11 @@ use Rattle.fx_namespace.specs.Nodes.{NodeId, child, led_to}
 use Rattle.fx_namespace.specs.Wrong.{AreItems}
 use Rattle.fx_namespace.proofs.Walks.{child_value}
 use Rattle.fx_nodes.specs.Lists.{IsIn}
-use Rattle.fx_nodes.specs.Links.{Link, link_at, links_of, is_node, links_from, links_in, link_of, object_at, objects_of}
+use Rattle.fx_nodes.specs.Links.{Link, link_at, links_of, is_same_node, links_from, links_in, link_of, object_at, objects_of}
 use Rattle.fx_nodes.specs.Table.{AreKept}
 use Rattle.fx_nodes.specs.declared.graph.Child.{Child}
-use Rattle.fx_nodes.proofs.Keys.{at, item_keys, keys_total, same_at, at_itself}
+use Rattle.fx_item.proofs.KeyOrder.{keys_total}
+use Rattle.fx_nodes.proofs.Keys.{at, item_keys, same_at, at_itself}
 use Rattle.fx_nodes.proofs.Lists.{contains_from, filter_map_in, in_filter_map, in_map}
 use Rattle.fx_nodes.proofs.Nodes.{IsUpTo, is_node_at, is_node_same, less_after, less_apart, same_after, up_to_itself}
 
@@ -157,7 +158,7 @@ module _ (node : NodeId) where
   is_before c = is_lt (node_cmp c.parent node)
 
   abbrev pub is_of : Child → Bool
-  is_of c = is_node c.parent node
+  is_of c = is_same_node c.parent node
 
   none_kept : (xs : List Child) → ((k : ℕ) (d : Child) → k < length xs → is_of (get_or xs k d) ≡ false) → links_from (links_in xs) node ≡ []
   none_kept [] h = refl
@@ -199,7 +200,7 @@ module _ (node : NodeId) where
           ap is_of (get_or-drop n (drop s xs) k d) ∙ later (n + k) d (omega arith) (omega (arith, length-drop n (drop s xs))))
 
       in_parts : (ys zs : List Child) → links_from (links_in (ys ++ zs)) node ≡ links_from (links_in ys) node ++ links_from (links_in zs) node
-      in_parts ys zs = ap (λ ls. links_from ls node) (map-append link_of ys zs) ∙ filter-append (λ l. is_node l.parent node) (links_in ys) (links_in zs)
+      in_parts ys zs = ap (λ ls. links_from ls node) (map-append link_of ys zs) ∙ filter-append (λ l. is_same_node l.parent node) (links_in ys) (links_in zs)
 
       pub found_from : links_in (take n (drop s xs)) ≡ links_from (links_in xs) node
       found_from =

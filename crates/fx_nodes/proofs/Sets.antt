@@ -1,39 +1,25 @@
 -- Nodes put into a set and taken out of it, one by one.
 use Rattle.std.proofs.Common.{◌≡◌, ◌≢◌, ◌⊎◌, inl, inr, List, [], ◌∷◌, ◌++◌, refl, sym, ap, subst, ◌∙◌, Bool, true, false, cond}
 use Rattle.std.specs.Prelude.{not}
-use Rattle.std.specs.Cmp.{tied_itself}
 use Rattle.std.specs.Ordering.{is_eq}
-use Rattle.std.specs.declared.cmp.Ordering.{Ordering}
-use Rattle.std.specs.declared.cmp.Ordering.TheVariants.{Less, Equal, Greater}
 use Rattle.fx_item.specs.LockKey.{key_cmp}
 use Rattle.fx_namespace.specs.Nodes.{NodeId}
 use Rattle.fx_nodes.specs.Lists.{IsIn, IsRepeated}
 use Rattle.fx_nodes.specs.Faults.{AreRepeated}
 use Rattle.fx_nodes.specs.Reach.{AreAdded, AreTaken}
 use Rattle.fx_nodes.proofs.Lists.{in_last, in_left, last_cases, repeated_before, repeated_cases, repeated_last}
-use Rattle.fx_nodes.proofs.Nodes.{nodes_exact, nodes_total}
+use Rattle.fx_base.proofs.TotalOrders.{same_or_apart, same_tie}
+use Rattle.fx_item.proofs.KeyOrder.{lock_keys_exact, lock_keys_total}
 
 abbrev pub at : NodeId → NodeId → Bool
 at a b = is_eq (key_cmp a b)
 
-equal_from : (r : Ordering) → is_eq r ≡ true → r ≡ Equal
-equal_from Equal e = refl
-equal_from Less e = cc
-equal_from Greater e = cc
-
-at_same : (a b : NodeId) → at a b ≡ true → a ≡ b
-at_same a b e = nodes_exact a b (equal_from (key_cmp a b) e)
-
 same_at : (a b : NodeId) → a ≡ b → at a b ≡ true
-same_at a b e = subst (λ c. at a c ≡ true) e (ap is_eq (tied_itself nodes_total a))
+same_at = same_tie lock_keys_total lock_keys_exact
 
 -- one node or another one
 by_node : (a b : NodeId) → ((a ≡ b) × (at a b ≡ true)) ⊎ ((a ≢ b) × (at a b ≡ false))
-by_node a b = by_test (at a b) refl
-  where
-    by_test : (t : Bool) → at a b ≡ t → ((a ≡ b) × (at a b ≡ true)) ⊎ ((a ≢ b) × (at a b ≡ false))
-    by_test true e = inl (at_same a b e, e)
-    by_test false e = inr (λ s. absurd (cc (sym e ∙ same_at a b s)), e)
+by_node = same_or_apart lock_keys_total lock_keys_exact
 
 module _ {old now then' : NodeId → Bool} {nodes : List NodeId} (x : NodeId) where
   pub added_more : AreAdded old now nodes → ((q : NodeId) → then' q ≡ cond (at x q) true (now q)) → AreAdded old then' (nodes ++ x ∷ [])

@@ -7,21 +7,21 @@ use Rattle.fx_item.specs.Look.{ItemMap}
 use Rattle.fx_namespace.specs.Nodes.{NodeId, child, node_at, node_from}
 use Rattle.fx_namespace.proofs.Walks.{EndsWith, ends_with, last_step, more_step, node_from-append}
 use Rattle.fx_nodes.specs.Lists.{IsIn}
-use Rattle.fx_nodes.specs.Links.{Link, is_node, links_from, nodes_below, targets_in, targets_of}
-use Rattle.fx_nodes.specs.Reach.{AreReached, AreTaken, IsLevel, Reaches}
+use Rattle.fx_nodes.specs.Links.{Link, is_same_node, links_from, nodes_below, targets_in, targets_of}
+use Rattle.fx_nodes.specs.Reach.{AreReached, AreTaken, IsLevel, IsReachedFrom}
 use Rattle.fx_nodes.proofs.Links.{AreLinks}
 use Rattle.fx_nodes.proofs.Lists.{filter_in, flat_in, in_cases, in_filter, in_flat, in_left, in_map, in_right, map_in}
 use Rattle.fx_nodes.proofs.Nodes.{is_node_itself, is_node_same}
 
 -- What is so while nodes are gathered: those whose children were followed, and the fresh ones.
 pub record AreSpreading (m : ItemMap) (seeds : List NodeId) (old now : NodeId → Bool) (all fresh : List NodeId) : Type 0 where
-  pub sound : (q : NodeId) → IsIn (all ++ fresh) q → Reaches m seeds q
+  pub sound : (q : NodeId) → IsIn (all ++ fresh) q → IsReachedFrom m seeds q
   pub begun : (q : NodeId) → IsIn seeds q → IsIn (all ++ fresh) q
   pub closed : (p q : NodeId) (name : List ℕ) → IsIn all p → child m p name ≡ Some q → IsIn (all ++ fresh) q
   pub rest : (q : NodeId) → now q ≡ true → (old q ≡ true) × (IsIn (all ++ fresh) q → ⊥)
   pub kept : (q : NodeId) → old q ≡ true → (now q ≡ true) ⊎ IsIn (all ++ fresh) q
 
-reaches_more : (m : ItemMap) (seeds : List NodeId) (p q : NodeId) (name : List ℕ) → Reaches m seeds p → child m p name ≡ Some q → Reaches m seeds q
+reaches_more : (m : ItemMap) (seeds : List NodeId) (p q : NodeId) (name : List ℕ) → IsReachedFrom m seeds p → child m p name ≡ Some q → IsReachedFrom m seeds q
 reaches_more m seeds p q name r e =
     (r.0, r.1 ++ name ∷ [], r.2, node_from-append m r.0 r.1 (name ∷ []) ∙ ap (option_and_then (λ z. node_from m z (name ∷ []))) r.3 ∙ ap (option_and_then (λ z. node_from m z [])) e)
 
@@ -29,13 +29,13 @@ module _ {m : ItemMap} {links : List Link} (a : AreLinks m links) where
   pub led_from : (p q : NodeId) → IsIn (targets_of links p) q → (name : List ℕ) × (child m p name ≡ Some q)
   led_from p q i =
       let l = map_in (λ l. l.node) (links_from links p) q i in
-      let f = filter_in (λ l. is_node l.parent p) links l.0 l.1 in
+      let f = filter_in (λ l. is_same_node l.parent p) links l.0 l.1 in
       (l.0.name, ap (λ z. child m z l.0.name) (sym (is_node_same l.0.parent p f.1)) ∙ a.sound l.0 f.0 ∙ ap Some l.2)
 
   pub in_targets : (p q : NodeId) (name : List ℕ) → child m p name ≡ Some q → IsIn (targets_of links p) q
   in_targets p q name e =
       let l : Link = record { parent = p; name = name; node = q } in
-      in_map (λ l. l.node) (links_from links p) l (in_filter (λ l. is_node l.parent p) links l (a.whole l e) (is_node_itself p))
+      in_map (λ l. l.node) (links_from links p) l (in_filter (λ l. is_same_node l.parent p) links l (a.whole l e) (is_node_itself p))
 
   pub below_led : (nodes : List NodeId) (q : NodeId) → IsIn (nodes_below links nodes) q → (p : NodeId) × IsIn nodes p × ((name : List ℕ) × (child m p name ≡ Some q))
   below_led nodes q i = let p = flat_in (targets_of links) nodes q i in (p.0, p.1, led_from p.0 q p.2)

@@ -7,7 +7,7 @@ use Rattle.fx_plain.specs.declared.kind.Kind.TheVariants.{Dir}
 use Rattle.fx_namespace.specs.Nodes.{NodeId, Stands, child, node_at, object_kind, root_node}
 use Rattle.fx_namespace.proofs.Walks.{EndsWith, ends_with, last_step, more_step}
 use Rattle.fx_nodes.specs.Lists.{IsIn}
-use Rattle.fx_nodes.specs.Links.{Link, is_node, links_from, links_of}
+use Rattle.fx_nodes.specs.Links.{Link, is_same_node, links_from, links_of}
 use Rattle.fx_nodes.specs.Table.{AreKept}
 use Rattle.fx_nodes.specs.Tree.{AreTreeNodes, all_below, below, level_of, levels, node_below}
 use Rattle.fx_nodes.specs.declared.walk.TreeNode.{TreeNode}
@@ -82,7 +82,7 @@ module _ (items : List PlainItem) (k : AreKept items) where
   below_led : (path : List (List ℕ)) (node : NodeId) (x : TreeNode) → IsIn (below items path node) x → (name : List ℕ) × (x.path ≡ path ++ name ∷ []) × (child m node name ≡ Some x.node) × (x.kind ≡ unwrap_or (object_kind m x.node) Dir)
   below_led path node x i =
       let l = map_in (node_below m path) (links_from (links_of items) node) x i in
-      let f = filter_in (λ z. is_node z.parent node) (links_of items) l.0 l.1 in (
+      let f = filter_in (λ z. is_same_node z.parent node) (links_of items) l.0 l.1 in (
         l.0.name,
         ap (λ z. z.path) (sym l.2),
         ap (λ z. child m z l.0.name) (sym (is_node_same l.0.parent node f.1)) ∙ a.sound l.0 f.0 ∙ ap (λ z. Some z.node) l.2,
@@ -92,7 +92,7 @@ module _ (items : List PlainItem) (k : AreKept items) where
   in_below : (path : List (List ℕ)) (node next : NodeId) (name : List ℕ) → child m node name ≡ Some next → IsIn (below items path node) (node_below m path (record { parent = node; name = name; node = next }))
   in_below path node next name e =
       let l : Link = record { parent = node; name = name; node = next } in
-      in_map (node_below m path) (links_from (links_of items) node) l (in_filter (λ z. is_node z.parent node) (links_of items) l (a.whole l e) (is_node_itself node))
+      in_map (node_below m path) (links_from (links_of items) node) l (in_filter (λ z. is_same_node z.parent node) (links_of items) l (a.whole l e) (is_node_itself node))
 
   -- each node of a level
   record IsAt (n : ℕ) (x : TreeNode) : Type 0 where
@@ -156,16 +156,16 @@ module _ (items : List PlainItem) (k : AreKept items) where
 
   below_apart : (path : List (List ℕ)) (node : NodeId) (ls : List Link) → InOrder ls → AreApart (map (node_below m path) (links_from ls node))
   below_apart path node [] o = tt
-  below_apart path node (l ∷ ls) o = by_test (is_node l.parent node) refl (below_apart path node ls o.1)
+  below_apart path node (l ∷ ls) o = by_test (is_same_node l.parent node) refl (below_apart path node ls o.1)
     where
-      by_test : (b : Bool) → is_node l.parent node ≡ b → AreApart (map (node_below m path) (links_from ls node)) → AreApart (map (node_below m path) (cond b (l ∷ links_from ls node) (links_from ls node)))
+      by_test : (b : Bool) → is_same_node l.parent node ≡ b → AreApart (map (node_below m path) (links_from ls node)) → AreApart (map (node_below m path) (cond b (l ∷ links_from ls node) (links_from ls node)))
       by_test false t ih = ih
       by_test true t ih = (apart, ih)
         where
           apart : (y : TreeNode) → IsIn (map (node_below m path) (links_from ls node)) y → path ++ l.name ∷ [] ≢ y.path
           apart y i e =
               let z = map_in (node_below m path) (links_from ls node) y i in
-              let f = filter_in (λ w. is_node w.parent node) ls z.0 z.1 in
+              let f = filter_in (λ w. is_same_node w.parent node) ls z.0 z.1 in
               let s = snoc_same path path l.name z.0.name (e ∙ ap (λ w. w.path) (sym z.2)) in
               not_before l z.0 (o.0 z.0 f.0) (is_node_same l.parent node t ∙ sym (is_node_same z.0.parent node f.1)) s.1
 

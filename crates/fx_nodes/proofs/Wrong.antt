@@ -17,7 +17,7 @@ use Rattle.fx_namespace.proofs.Walks.{EndsWith, child_value, ends_with, last_ste
 use Rattle.fx_nodes.specs.Lists.{IsIn, IsRepeated}
 use Rattle.fx_nodes.specs.Links.{Link, links_of, nodes_below, targets_in}
 use Rattle.fx_nodes.specs.Faults.{AreDeep, AreLost, is_childless, is_wrong_child, may_be, may_lead, wrong_by, wrong_child, wrong_parent}
-use Rattle.fx_nodes.specs.Reach.{AreReached, IsLevel, Reaches}
+use Rattle.fx_nodes.specs.Reach.{AreReached, IsLevel, IsReachedFrom}
 use Rattle.fx_nodes.specs.Table.{AreKept}
 use Rattle.fx_nodes.proofs.Links.{AreLinks, InOrder, are_items, are_links, in_order, not_before}
 use Rattle.fx_nodes.proofs.Lists.{filter_in, flat_in, in_cases, in_filter, in_flat, in_left, in_map, in_right, map_in}
@@ -200,12 +200,12 @@ first_step m (x ∷ above) name n e = option_and_then_some (λ z. node_from m z 
 
 module _ {m : ItemMap} {links : List Link} (a : AreLinks m links) where
   -- a path of one or more names leads to what the root's children reach
-  pub reached_by : (above : List (List ℕ)) (name : List ℕ) (n : NodeId) → node_at m (above ++ name ∷ []) ≡ Some n → Reaches m (nodes_below links (root_node ∷ [])) n
+  pub reached_by : (above : List (List ℕ)) (name : List ℕ) (n : NodeId) → node_at m (above ++ name ∷ []) ≡ Some n → IsReachedFrom m (nodes_below links (root_node ∷ [])) n
   reached_by above name n e =
       let f = first_step m above name n e in
       (f.1, f.2, in_below a (root_node ∷ []) root_node f.1 f.0 (inl refl) f.3, f.4)
 
-  pub path_to : (n : NodeId) → Reaches m (nodes_below links (root_node ∷ [])) n → (above : List (List ℕ)) × (name : List ℕ) × (node_at m (above ++ name ∷ []) ≡ Some n)
+  pub path_to : (n : NodeId) → IsReachedFrom m (nodes_below links (root_node ∷ [])) n → (above : List (List ℕ)) × (name : List ℕ) × (node_at m (above ++ name ∷ []) ≡ Some n)
   path_to n r = by_end (ends_with (x ∷ r.1))
     where
       below : (p : NodeId) × IsIn (root_node ∷ []) p × ((name : List ℕ) × (child m p name ≡ Some r.0))
@@ -247,7 +247,7 @@ module _ {m : ItemMap} {links : List Link} (a : AreLinks m links) where
 
 module _ {m : ItemMap} {seeds : List NodeId} (l : IsLevel m (MAX_NAMES + 1) seeds) where
   -- a longer path goes through a node of that level
-  through : (path : List (List ℕ)) (n : NodeId) → node_at m path ≡ Some n → MAX_NAMES < length path → Reaches m seeds n
+  through : (path : List (List ℕ)) (n : NodeId) → node_at m path ≡ Some n → MAX_NAMES < length path → IsReachedFrom m seeds n
   through path n e long =
       let parts : option_and_then (λ z. node_from m z (drop (MAX_NAMES + 1) path)) (node_at m (take (MAX_NAMES + 1) path)) ≡ Some n =
       sym (node_from-append m root_node (take (MAX_NAMES + 1) path) (drop (MAX_NAMES + 1) path)) ∙ ap (node_at m) (take-append-drop (MAX_NAMES + 1) path) ∙ e in

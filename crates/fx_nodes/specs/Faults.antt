@@ -12,7 +12,9 @@ use Rattle.fx_nodes.specs.Links.{Link}
 
 -- a child of one node may lead to another
 abbrev pub may_lead : NodeId → NodeId → Bool
-may_lead parent node = if is_root parent then node.id == 0 && nat_le 1 node.store else node.store == parent.store && nat_le 1 node.id
+may_lead parent node =
+    if is_root parent then node.id == 0 && nat_le 1 node.store
+    else node.store == parent.store && nat_le 1 node.id
 
 -- what a child of that node leads to may be of that kind
 abbrev pub may_be : NodeId → Option Kind → Bool
@@ -46,15 +48,21 @@ pub record AreRepeated (nodes repeated : List NodeId) : Type 0 where
 -- The nodes among these that no path of one or more names leads to.
 pub record AreLost (m : ItemMap) (objects lost : List NodeId) : Type 0 where
   pub object : (node : NodeId) → IsIn lost node → IsIn objects node
-  pub unled : (node : NodeId) → IsIn lost node → (above : List (List ℕ)) (name : List ℕ) → node_at m (above ++ name ∷ []) ≡ Some node → ⊥
-  pub whole : (node : NodeId) → IsIn objects node → ((above : List (List ℕ)) (name : List ℕ) → node_at m (above ++ name ∷ []) ≡ Some node → ⊥) → IsIn lost node
+  pub unled : (node : NodeId) → IsIn lost node → (above : List (List ℕ)) (name : List ℕ)
+      → node_at m (above ++ name ∷ []) ≡ Some node → ⊥
+  pub whole : (node : NodeId) → IsIn objects node
+      → ((above : List (List ℕ)) (name : List ℕ) → node_at m (above ++ name ∷ []) ≡ Some node → ⊥)
+      → IsIn lost node
 
 -- The nodes that paths of more than 64 names lead to.
 pub record AreDeep (m : ItemMap) (deep : List NodeId) : Type 0 where
-  pub sound : (node : NodeId) → IsIn deep node → (path : List (List ℕ)) × (node_at m path ≡ Some node) × (MAX_NAMES < length path)
-  pub whole : (path : List (List ℕ)) (node : NodeId) → node_at m path ≡ Some node → MAX_NAMES < length path → IsIn deep node
+  pub sound : (node : NodeId) → IsIn deep node
+      → (path : List (List ℕ)) × (node_at m path ≡ Some node) × (MAX_NAMES < length path)
+  pub whole : (path : List (List ℕ)) (node : NodeId) → node_at m path ≡ Some node
+      → MAX_NAMES < length path → IsIn deep node
 
 -- what is the least of some nodes
-abbrev pub IsLeast : List NodeId → Option NodeId → Type 0
-IsLeast nodes None = nodes ≡ []
-IsLeast nodes (Some node) = IsIn nodes node × ((other : NodeId) → IsIn nodes other → IsTrue (is_le (key_cmp node other)))
+abbrev pub IsLeastOf : List NodeId → Option NodeId → Type 0
+IsLeastOf nodes None = nodes ≡ []
+IsLeastOf nodes (Some node) = IsIn nodes node
+    × ((other : NodeId) → IsIn nodes other → IsTrue (is_le (key_cmp node other)))

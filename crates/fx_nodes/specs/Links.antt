@@ -13,19 +13,23 @@ pub record Link : Type 0 where
 
 abbrev pub link_at : PlainKey → PlainValue → Option Link
 link_at (ChildKey store id name) (ChildValue to to_id) =
-    Some (record { parent = record { store = store; id = id }; name = name; node = record { store = to; id = to_id } })
+    Some (record {
+      parent = record { store = store; id = id };
+      name = name;
+      node = record { store = to; id = to_id };
+    })
 link_at _ _ = None
 
 -- all children, in the order of their keys
 abbrev pub links_of : List PlainItem → List Link
 links_of items = filter_map (λ x. link_at x.key x.value) items
 
-abbrev pub is_node : NodeId → NodeId → Bool
-is_node a b = a.store == b.store && a.id == b.id
+abbrev pub is_same_node : NodeId → NodeId → Bool
+is_same_node a b = a.store == b.store && a.id == b.id
 
 -- the children of a node
 abbrev pub links_from : List Link → NodeId → List Link
-links_from links node = filter (λ l. is_node l.parent node) links
+links_from links node = filter (λ l. is_same_node l.parent node) links
 
 -- the nodes that children lead to
 abbrev pub targets_in : List Link → List NodeId

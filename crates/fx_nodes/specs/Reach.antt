@@ -12,12 +12,15 @@ has set node = contains key_cmp set node
 
 -- The nodes that paths of so many names lead to.
 pub record IsLevel (m : ItemMap) (names : ℕ) (level : List NodeId) : Type 0 where
-  pub sound : (node : NodeId) → IsIn level node → (path : List (List ℕ)) × (length path ≡ names) × (node_at m path ≡ Some node)
-  pub whole : (path : List (List ℕ)) (node : NodeId) → length path ≡ names → node_at m path ≡ Some node → IsIn level node
+  pub sound : (node : NodeId) → IsIn level node
+      → (path : List (List ℕ)) × (length path ≡ names) × (node_at m path ≡ Some node)
+  pub whole : (path : List (List ℕ)) (node : NodeId) → length path ≡ names
+      → node_at m path ≡ Some node → IsIn level node
 
 -- Names lead from one of the seeds to the node.
-abbrev pub Reaches : ItemMap → List NodeId → NodeId → Type 0
-Reaches m seeds node = (seed : NodeId) × (path : List (List ℕ)) × IsIn seeds seed × (node_from m seed path ≡ Some node)
+abbrev pub IsReachedFrom : ItemMap → List NodeId → NodeId → Type 0
+IsReachedFrom m seeds node = (seed : NodeId) × (path : List (List ℕ)) × IsIn seeds seed
+    × (node_from m seed path ≡ Some node)
 
 -- Nodes were taken out of a set: those that were in it.
 pub record AreTaken (old now : NodeId → Bool) (nodes fresh : List NodeId) : Type 0 where
@@ -27,9 +30,10 @@ pub record AreTaken (old now : NodeId → Bool) (nodes fresh : List NodeId) : Ty
   pub kept : (node : NodeId) → old node ≡ true → (now node ≡ true) ⊎ IsIn fresh node
 
 -- All nodes that the seeds reach were taken out of a set.
-pub record AreReached (m : ItemMap) (old now : NodeId → Bool) (seeds all : List NodeId) : Type 0 where
-  pub sound : (node : NodeId) → IsIn all node → Reaches m seeds node
-  pub whole : (node : NodeId) → Reaches m seeds node → IsIn all node
+pub record AreReached (m : ItemMap) (old now : NodeId → Bool)
+    (seeds all : List NodeId) : Type 0 where
+  pub sound : (node : NodeId) → IsIn all node → IsReachedFrom m seeds node
+  pub whole : (node : NodeId) → IsReachedFrom m seeds node → IsIn all node
   pub rest : (node : NodeId) → now node ≡ true → (old node ≡ true) × (IsIn all node → ⊥)
   pub kept : (node : NodeId) → old node ≡ true → (now node ≡ true) ⊎ IsIn all node
 

@@ -10,7 +10,11 @@ use Rattle.fx_nodes.specs.declared.walk.TreeNode.{TreeNode}
 
 -- a child of the node at a path
 abbrev pub node_below : ItemMap → List (List ℕ) → Link → TreeNode
-node_below m path l = record { path = path ++ l.name ∷ []; node = l.node; kind = unwrap_or (object_kind m l.node) Dir }
+node_below m path l = record {
+  path = path ++ l.name ∷ [];
+  node = l.node;
+  kind = unwrap_or (object_kind m l.node) Dir;
+}
 
 -- the children of the node at a path
 abbrev pub below : List PlainItem → List (List ℕ) → NodeId → List TreeNode
@@ -33,13 +37,17 @@ levels items (suc n) = levels items n ++ level_of items n
 pub record AreTreeNodes (m : ItemMap) (nodes : List TreeNode) : Type 0 where
   -- each path leads to its node, which is of that kind
   pub node : (i : ℕ) (x : TreeNode) → slice_get nodes i ≡ Some x → node_at m x.path ≡ Some x.node
-  pub kind : (i : ℕ) (x : TreeNode) → slice_get nodes i ≡ Some x → object_kind m x.node ≡ Some x.kind
+  pub kind : (i : ℕ) (x : TreeNode) → slice_get nodes i ≡ Some x
+      → object_kind m x.node ≡ Some x.kind
   -- each path of one or more names is there
-  pub whole : (above : List (List ℕ)) (name : List ℕ) (node : NodeId) → node_at m (above ++ name ∷ []) ≡ Some node
+  pub whole : (above : List (List ℕ)) (name : List ℕ) (node : NodeId)
+      → node_at m (above ++ name ∷ []) ≡ Some node
       → (i : ℕ) × (x : TreeNode) × (slice_get nodes i ≡ Some x) × (x.path ≡ above ++ name ∷ [])
   -- no path is there twice, and none is empty
-  pub once : (i j : ℕ) (x y : TreeNode) → slice_get nodes i ≡ Some x → slice_get nodes j ≡ Some y → x.path ≡ y.path → i ≡ j
+  pub once : (i j : ℕ) (x y : TreeNode) → slice_get nodes i ≡ Some x → slice_get nodes j ≡ Some y
+      → x.path ≡ y.path → i ≡ j
   pub named : (i : ℕ) (x : TreeNode) → slice_get nodes i ≡ Some x → x.path ≢ []
   -- what a path goes through is there before it
-  pub parent : (i : ℕ) (x : TreeNode) (above : List (List ℕ)) (name : List ℕ) → slice_get nodes i ≡ Some x → x.path ≡ above ++ name ∷ [] → above ≢ []
+  pub parent : (i : ℕ) (x : TreeNode) (above : List (List ℕ)) (name : List ℕ)
+      → slice_get nodes i ≡ Some x → x.path ≡ above ++ name ∷ [] → above ≢ []
       → (j : ℕ) × (y : TreeNode) × (j < i) × (slice_get nodes j ≡ Some y) × (y.path ≡ above)

@@ -4,7 +4,7 @@ ghost use Rattle.std.specs.List.{flat_map};
 ghost use Rattle.fx_item.specs.Look.{value_in};
 ghost use Rattle.fx_namespace.specs.Nodes.{Stands, object_kind};
 ghost use Rattle.fx_namespace.specs.Wrong.{IsLeastWrong};
-ghost use Rattle.fx_nodes.specs.Faults.{AreDeep, AreLost, AreRepeated, IsLeast, is_childless, is_wrong_child, may_be, may_lead, wrong_by};
+ghost use Rattle.fx_nodes.specs.Faults.{AreDeep, AreLost, AreRepeated, IsLeastOf, is_childless, is_wrong_child, may_be, may_lead, wrong_by};
 ghost use Rattle.fx_nodes.specs.Links.{link_of, links_of, objects_of, targets_in};
 ghost use Rattle.fx_nodes.specs.Table.{AreKept};
 
@@ -21,7 +21,8 @@ use std::collections::BTreeSet;
 /// are too long or nodes have many parents, up to 65 times the children.
 pub fn check(alloc: Global, table: &ItemTable) -> Result<Option<LockKey>, AllocError>
     ensures stands { IfOk result (λ found. IfNone found (Stands (value_in table.now.items))) }
-    ensures wrong { IfOk result (λ found. IfSome found (λ node. IsLeastWrong (value_in table.now.items) node)) }
+    ensures wrong { IfOk result
+        (λ found. IfSome found (λ node. IsLeastWrong (value_in table.now.items) node)) }
 {
     let graph = Graph::new(alloc, table)?;
     let mut wrong = misplaced(alloc, &graph)?;
@@ -33,7 +34,7 @@ pub fn check(alloc: Global, table: &ItemTable) -> Result<Option<LockKey>, AllocE
 
 /// The least of some nodes, by store and id.
 fn least(nodes: &[LockKey]) -> Option<LockKey>
-    ensures { IsLeast nodes.now result }
+    ensures { IsLeastOf nodes.now result }
 {
     nodes.iter().copied().min()
 }
@@ -41,7 +42,8 @@ fn least(nodes: &[LockKey]) -> Option<LockKey>
 /// The nodes that are wrong by one child: a child leads to them that may not, or they have no Object, or
 /// the root has them and they are no directory; and the nodes that have a child and are no directory.
 fn misplaced(alloc: Global, graph: &Graph) -> Result<Vec<LockKey>, AllocError>
-    ensures { IfOk result (λ wrong. wrong.items ≡ flat_map (wrong_by (value_in graph.now)) (links_of graph.now)) }
+    ensures { IfOk result (λ wrong. wrong.items
+        ≡ flat_map (wrong_by (value_in graph.now)) (links_of graph.now)) }
 {
     let mut wrong = Vec::new(alloc);
     for child in graph.children() {
@@ -51,7 +53,8 @@ fn misplaced(alloc: Global, graph: &Graph) -> Result<Vec<LockKey>, AllocError>
 }
 
 fn push_wrong(graph: &Graph, child: &Child, wrong: &mut Vec<LockKey>) -> Result<(), AllocError>
-    ensures { OnOk result (wrong.new.items ≡ wrong.old.items ++ wrong_by (value_in graph.now) (link_of child.now)) }
+    ensures { OnOk result (wrong.new.items
+        ≡ wrong.old.items ++ wrong_by (value_in graph.now) (link_of child.now)) }
 {
     if is_wrong_child(graph, child) {
         wrong.push(child.node)?;

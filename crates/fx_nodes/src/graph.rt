@@ -39,7 +39,8 @@ impl<'a> Model for Graph<'a> {
 
     ghost view = { λ g. g.table.now.items };
 
-    ghost invariant = { λ g. AreKept g.table.now.items × (links_in g.children.items ≡ links_of g.table.now.items) };
+    ghost invariant = { λ g. AreKept g.table.now.items
+        × (links_in g.children.items ≡ links_of g.table.now.items) };
 }
 
 impl<'a> Graph<'a> {

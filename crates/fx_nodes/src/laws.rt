@@ -9,8 +9,9 @@ ghost use Rattle.fx_nodes.specs.Table.{AreKept, MovesOn};
 /// Where nothing is wrong at any node, items make a tree, if a list has each key under which one stands;
 /// and where they make a tree, nothing is wrong.
 pub fn wrong_laws()
-    ensures stands { (m : ItemMap) (keys : List PlainKey) → ((key : PlainKey) (value : PlainValue) → m key ≡ Some value → Contains keys key) →
-        AreItems m → ((node : NodeId) → IsWrongAt m node → ⊥) → Stands m }
+    ensures stands { (m : ItemMap) (keys : List PlainKey)
+        → ((key : PlainKey) (value : PlainValue) → m key ≡ Some value → Contains keys key)
+        → AreItems m → ((node : NodeId) → IsWrongAt m node → ⊥) → Stands m }
     ensures right { (m : ItemMap) (node : NodeId) → Stands m → IsWrongAt m node → ⊥ }
 {}
 
@@ -18,10 +19,16 @@ pub fn wrong_laws()
 /// and the new one leave; and its numbers are those after all lists.
 pub fn table_laws()
     ensures items { (items : List PlainItem) → AreKept items → AreItems (value_in items) }
-    ensures put { (old now items : List PlainItem) (lists : List (List PlainItem)) → ((key : PlainKey) → value_in old key ≡ after_all lists key) →
-        ((key : PlainKey) → value_in now key ≡ after (value_in old) items key) → (key : PlainKey) → value_in now key ≡ after_all (lists ++ items ∷ []) key }
-    ensures next_id { (end start old now : ℕ) (items : List PlainItem) (lists : List (List PlainItem)) → MovesOn end start old (λ n. next_id_after n lists) →
-        MovesOn end old now (λ n. next_id n items) → MovesOn end start now (λ n. next_id_after n (lists ++ items ∷ [])) }
-    ensures next_store { (end start old now : ℕ) (items : List PlainItem) (lists : List (List PlainItem)) → MovesOn end start old (λ n. next_store_after n lists) →
-        MovesOn end old now (λ n. next_store n items) → MovesOn end start now (λ n. next_store_after n (lists ++ items ∷ [])) }
+    ensures put { (old now items : List PlainItem) (lists : List (List PlainItem))
+        → ((key : PlainKey) → value_in old key ≡ after_all lists key)
+        → ((key : PlainKey) → value_in now key ≡ after (value_in old) items key) → (key : PlainKey)
+        → value_in now key ≡ after_all (lists ++ items ∷ []) key }
+    ensures next_id { (end start old now : ℕ) (items : List PlainItem)
+        (lists : List (List PlainItem)) → MovesOn end start old (λ n. next_id_after n lists)
+        → MovesOn end old now (λ n. next_id n items)
+        → MovesOn end start now (λ n. next_id_after n (lists ++ items ∷ [])) }
+    ensures next_store { (end start old now : ℕ) (items : List PlainItem)
+        (lists : List (List PlainItem)) → MovesOn end start old (λ n. next_store_after n lists)
+        → MovesOn end old now (λ n. next_store n items)
+        → MovesOn end start now (λ n. next_store_after n (lists ++ items ∷ [])) }
 {}

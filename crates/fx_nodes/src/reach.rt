@@ -31,7 +31,8 @@ pub(crate) fn nodes_below(
 
 /// Appends the nodes that a node's children lead to.
 fn push_targets(graph: &Graph, node: LockKey, into: &mut Vec<LockKey>) -> Result<(), AllocError>
-    ensures { OnOk result (into.new.items ≡ into.old.items ++ targets_of (links_of graph.now) node) }
+    ensures { OnOk result (into.new.items
+        ≡ into.old.items ++ targets_of (links_of graph.now) node) }
 {
     for child in graph.children_of(node) {
         into.push(child.node)?;
@@ -65,8 +66,10 @@ pub(crate) fn spread(
 ) -> Result<Vec<LockKey>, AllocError>
     requires kept { AreKept graph.now }
     requires seeds { (node : NodeId) → IsIn seeds.items node → has left.old node ≡ true }
-    requires targets { (node : NodeId) → IsIn (targets_in (links_of graph.now)) node → has left.old node ≡ true }
-    ensures { IfOk result (λ all. AreReached (value_in graph.now) (has left.old) (has left.new) seeds.items all.items) }
+    requires targets { (node : NodeId) → IsIn (targets_in (links_of graph.now)) node
+        → has left.old node ≡ true }
+    ensures { IfOk result (λ all. AreReached (value_in graph.now) (has left.old)
+        (has left.new) seeds.items all.items) }
 {
     let mut all = Vec::new(alloc);
     let mut fresh = take_from(alloc, left, seeds)?;
@@ -84,8 +87,10 @@ fn take_from(
     left: &mut BTreeSet<LockKey>,
     nodes: Vec<LockKey>,
 ) -> Result<Vec<LockKey>, AllocError>
-    ensures taken { IfOk result (λ fresh. AreTaken (has left.old) (has left.new) nodes.items fresh.items) }
-    ensures count { IfOk result (λ fresh. btree_set_len left.new + length fresh.items ≡ btree_set_len left.old) }
+    ensures taken { IfOk result
+        (λ fresh. AreTaken (has left.old) (has left.new) nodes.items fresh.items) }
+    ensures count { IfOk result (λ fresh. btree_set_len left.new + length fresh.items
+        ≡ btree_set_len left.old) }
 {
     let mut fresh = Vec::new(alloc);
     for node in nodes {

@@ -28,7 +28,11 @@ impl Model for ItemTable {
 
     ghost Value = { PlainTable };
 
-    ghost view = { λ t. record { items = items_in t.items.entries; next_id = t.next_id; next_store = t.next_store } };
+    ghost view = { λ t. record {
+      items = items_in t.items.entries;
+      next_id = t.next_id;
+      next_store = t.next_store;
+    } };
 
     ghost invariant = { λ t. AreKept (items_in t.items.entries) };
 }
@@ -69,9 +73,15 @@ impl ItemTable {
     pub fn put(&mut self, items: &[Item]) -> Result<(), AllocError>
         requires each { All IsItem (items_of items.now) }
         requires ascending { IsTrue (is_ascending (items_of items.now)) }
-        ensures items { OnOk result ((key : PlainKey) → value_in self.new.items key ≡ after (value_in self.old.items) (items_of items.now) key) }
-        ensures next_id { OnOk result (MovesOn u64.MAX self.old.next_id self.new.next_id (λ n. next_id n (items_of items.now))) }
-        ensures next_store { OnOk result (MovesOn u32.MAX self.old.next_store self.new.next_store (λ n. next_store n (items_of items.now))) }
+        ensures items { OnOk result ((key : PlainKey)
+            → value_in self.new.items key ≡ after (value_in self.old.items)
+            (items_of items.now) key) }
+        ensures next_id { OnOk result
+            (MovesOn u64.MAX self.old.next_id self.new.next_id
+            (λ n. next_id n (items_of items.now))) }
+        ensures next_store { OnOk result
+            (MovesOn u32.MAX self.old.next_store self.new.next_store
+            (λ n. next_store n (items_of items.now))) }
     {
         for item in items {
             self.put_one(item)?;
@@ -81,9 +91,15 @@ impl ItemTable {
 
     fn put_one(&mut self, item: &Item) -> Result<(), AllocError>
         requires { IsItem (item_of item.now) }
-        ensures items { OnOk result ((key : PlainKey) → value_in self.new.items key ≡ after (value_in self.old.items) (item_of item.now ∷ []) key) }
-        ensures next_id { OnOk result (MovesOn u64.MAX self.old.next_id self.new.next_id (λ n. next_id n (item_of item.now ∷ []))) }
-        ensures next_store { OnOk result (MovesOn u32.MAX self.old.next_store self.new.next_store (λ n. next_store n (item_of item.now ∷ []))) }
+        ensures items { OnOk result ((key : PlainKey)
+            → value_in self.new.items key ≡ after (value_in self.old.items)
+            (item_of item.now ∷ []) key) }
+        ensures next_id { OnOk result
+            (MovesOn u64.MAX self.old.next_id self.new.next_id
+            (λ n. next_id n (item_of item.now ∷ []))) }
+        ensures next_store { OnOk result
+            (MovesOn u32.MAX self.old.next_store self.new.next_store
+            (λ n. next_store n (item_of item.now ∷ []))) }
     {
         apply(&mut self.items, item)?;
         let (key_store, key_id) = node_of(&item.key);
@@ -108,7 +124,8 @@ impl ItemTable {
 
     /// All children, in the order of their keys. One pass over the items.
     pub(crate) fn children(&self, alloc: Global) -> Result<Vec<Child<'_>>, AllocError>
-        ensures children { IfOk result (λ children. links_in children.items ≡ links_of self.now.items) }
+        ensures children { IfOk result (λ children. links_in children.items
+            ≡ links_of self.now.items) }
         ensures kept { AreKept self.now.items }
     {
         let mut children = Vec::new(alloc);
@@ -142,7 +159,9 @@ fn apply(items: &mut BTreeMap<Key, Value>, item: &Item) -> Result<(), AllocError
     requires kept { AreKept (items_in items.old.entries) }
     requires item { IsItem (item_of item.now) }
     ensures kept { AreKept (items_in items.new.entries) }
-    ensures items { OnOk result ((key : PlainKey) → value_in (items_in items.new.entries) key ≡ after (value_in (items_in items.old.entries)) (item_of item.now ∷ []) key) }
+    ensures items { OnOk result ((key : PlainKey)
+        → value_in (items_in items.new.entries) key
+        ≡ after (value_in (items_in items.old.entries)) (item_of item.now ∷ []) key) }
 {
     if let Value::Gone = item.value {
         items.remove(&item.key);

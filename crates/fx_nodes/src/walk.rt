@@ -6,10 +6,10 @@ ghost use Rattle.fx_nodes.specs.Tree.{AreTreeNodes, all_below, below, levels};
 
 use crate::graph::{Graph, ROOT};
 use crate::table::ItemTable;
+use fx_base::List;
 use fx_item::{LockKey, Name};
 use fx_plain::{Kind, MAX_NAMES, Path};
 use std::alloc::{AllocError, Global};
-use std::marker::Model;
 
 /// A path of one or more names, the node that it leads to, and what that is.
 #[derive(Debug, Drop)]
@@ -19,43 +19,8 @@ pub struct TreeNode {
     pub kind: Kind,
 }
 
-/// Nodes of a tree, one after another. Made from a `Vec` and given back without taking memory.
-#[derive(Debug, Drop)]
-pub struct TreeNodes {
-    items: Vec<TreeNode>,
-}
-
-impl Model for TreeNodes {
-    ghost use Rattle.std.specs.Prelude.{List};
-    ghost use Rattle.fx_nodes.specs.declared.walk.TreeNode.{TreeNode};
-
-    ghost Value = { List TreeNode };
-
-    ghost view = { λ n. n.items.items };
-}
-
-impl TreeNodes {
-    /// These nodes.
-    pub fn new(items: Vec<TreeNode>) -> TreeNodes
-        ensures { result ≡ items.items }
-    {
-        TreeNodes { items }
-    }
-
-    /// The nodes as a slice.
-    pub fn as_slice(&self) -> &[TreeNode]
-        ensures { result.now ≡ self.now }
-    {
-        self.items.as_slice()
-    }
-
-    /// The vector that holds them.
-    pub fn into_vec(self) -> Vec<TreeNode>
-        ensures { result.items ≡ self }
-    {
-        self.items
-    }
-}
+/// Nodes of a tree, one after another.
+pub type TreeNodes = List<TreeNode>;
 
 /// The nodes of the tree that the items make, but the root: each with the path that leads to it, parents
 /// before their children. Costs one pass over the items, two searches and a look at the Object for each
