@@ -20,12 +20,12 @@ pub told-both : (I J K : DiskRecord → Type 0) (told : Option DiskRecord) → (
 told-both I J K None step h l = h
 told-both I J K (Some r) step h l = step r h l
 
-made-write : (I J : DiskRecord → Type 0) (before after : Option DiskRecord) (at : ℕ) (bytes : List ℕ) (ok : Bool) → Writes before after at bytes ok
+pub made-write : (I J : DiskRecord → Type 0) (before after : Option DiskRecord) (at : ℕ) (bytes : List ℕ) (ok : Bool) → Writes before after at bytes ok
     → ((r : DiskRecord) (held : List ℕ) → Holds bytes ok held → I r → J (with_write r at bytes ok held)) → IfSome before I → IfSome after J
 made-write I J None after at bytes ok w step h = rw w h
 made-write I J (Some r) after at bytes ok w step h = rw w.2 (step r w.0 w.1 h)
 
-made-flush : (I J : DiskRecord → Type 0) (before after : Option DiskRecord) (ok : Bool) → Flushes before after ok → ((r : DiskRecord) → I r → J (with_flush r ok)) → IfSome before I → IfSome after J
+pub made-flush : (I J : DiskRecord → Type 0) (before after : Option DiskRecord) (ok : Bool) → Flushes before after ok → ((r : DiskRecord) → I r → J (with_flush r ok)) → IfSome before I → IfSome after J
 made-flush I J None after ok w step h = rw w h
 made-flush I J (Some r) after ok w step h = rw w (step r h)
 

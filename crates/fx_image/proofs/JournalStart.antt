@@ -22,9 +22,9 @@ use Rattle.fx_record.specs.Commits.{IsCommit}
 use Rattle.fx_super.specs.Super.{Fields}
 use Rattle.fx_log.specs.Chosen.{start_of}
 use Rattle.fx_image.specs.Standing.{Transactions, StandsFor, items_after, lists_of}
-use Rattle.fx_log.specs.Ring.{AreClosed, HasRecords}
-use Rattle.fx_image.specs.Journal.{IsJournal, IsReading, begun_journal}
-use Rattle.fx_image.proofs.Replay.{log_none}
+use Rattle.fx_log.proofs.LogRaised.{log-new}
+use Rattle.fx_image.specs.Journal.{IsJournal, IsReading, new_journal}
+use Rattle.fx_image.proofs.Replay.{replay_none}
 
 -- ---- a tree that items stand for has files that hold nothing
 
@@ -48,26 +48,11 @@ stands-bare m tree s = same_map paths_total paths_exact tree (bare tree)
 
 -- ---- the journal
 
-pub series-next : (generation : ℕ) (start next : Start) (blocks : List StreamBlock) → IsSeries generation start blocks next → next.sequence ≡ start.sequence + length blocks
-series-next generation start next [] h = omega (arith, ap (λ (p : Start). p.sequence) h)
-series-next generation start next (b ∷ bs) h = omega (arith, series-next generation (place_after start b) next bs h.1)
-
 module _ (size from : ℕ) (tree : Tree) (base : ℕ) (super : Fields) (read : List StreamBlock) (place : Start) (txns : Transactions) (reading : IsReading size base super read place txns) (fits : length read ≤ super.ring) where
-  closed-none : AreClosed super read place [] place.chain
-  closed-none = record {
-    records = All-nil HasRecords;
-    first = refl;
-    linked = tt;
-    room = omega (arith, fits);
-    low = omega (arith, fits, reading.rules.ring_most, reading.rules.sequence_below, series-next super.generation (start_of super) place read reading.series);
-  }
-
-  pub journal-begun : (calls : ℕ) → StandsFor (items_after txns) tree → IsJournal (begun_journal size from tree base super read place txns) calls
-  journal-begun calls stands = record {
+  pub journal-new : (calls : ℕ) → StandsFor (items_after txns) tree → IsJournal (new_journal size from tree base super read place txns) calls
+  journal-new calls stands = record {
     reading = reading;
-    closed = closed-none;
-    fewer = omega arith;
-    most = omega arith;
+    tail = (log-new size from super read place reading.head fits).tail;
     records = record { each = All-nil IsCommit; joined = refl };
     marked = record { few = omega arith; first = first_none; by_now = λ i d lt. absurd (omega arith); whole = omega arith };
     few = record {
@@ -76,5 +61,5 @@ module _ (size from : ℕ) (tree : Tree) (base : ℕ) (super : Fields) (read : L
       stores = omega (arith, ap (next_store_after super.next_store) (append-nil (lists_of txns)));
     };
     legal = legal_none tree base;
-    log = log_none tree base txns stands (stands-bare (items_after txns) tree stands);
+    replays = replay_none tree base txns stands (stands-bare (items_after txns) tree stands);
   }

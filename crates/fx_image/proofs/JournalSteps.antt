@@ -17,8 +17,10 @@ use Rattle.fx_record.specs.Commits.{IsCommit, commits_bytes}
 use Rattle.fx_record.proofs.Commits.{commits_bytes-push}
 use Rattle.fx_super.specs.Super.{Fields}
 use Rattle.fx_image.specs.Standing.{Transactions, lists_of}
-use Rattle.fx_image.specs.Journal.{Journal, IsJournal, IsNextCommit, Appends, IsWrittenOut, AreRecords, AreMarked, AreFew, commit_bytes, with_commit, with_closed, with_written, with_flushed, with_settled}
-use Rattle.fx_image.proofs.Replay.{log_settled}
+use Rattle.fx_log.specs.Log.{Appends, IsLog, IsTail, IsWrittenOut, closed_tail}
+use Rattle.fx_log.specs.Ring.{AreClosed}
+use Rattle.fx_image.specs.Journal.{Journal, IsJournal, IsNextCommit, AreRecords, AreMarked, AreFew, commit_bytes, with_commit, with_closed, with_written, with_settled}
+use Rattle.fx_image.proofs.Replay.{replay_settled}
 use Rattle.fx_image.proofs.PrefixImage.{text_of, texts-fewer}
 
 -- ---- the parts
@@ -86,102 +88,86 @@ few-settled super txns history other records same h = record { few = omega (arit
 -- ---- what happens
 
 module _ (j : Journal) (calls : ℕ) (h : IsJournal j calls) where
-  pub journal-commit : (entry : Entry) (items : List PlainItem) (closed : List Queued) (chain : ℕ) (text : List ℕ) → IsNextCommit j entry items → Appends j (commit_bytes entry items) closed chain text → IsJournal (with_commit j entry items closed chain text) calls
+  -- its log
+  pub log-is : IsLog j.log
+  log-is = record { head = h.reading.head; tail = h.tail }
+
+  tail-closed : (closed : List Queued) (chain : ℕ) (text : List ℕ) → AreClosed j.log.head.super j.log.head.read j.log.head.place (j.log.tail.blocks ++ closed) chain → IsTail j.log.head (closed_tail j.log.tail closed chain text)
+  tail-closed closed chain text blocks = record { closed = blocks; fewer = h.tail.fewer; most = omega (arith, h.tail.most, length-append j.log.tail.blocks closed) }
+
+  pub journal-commit : (entry : Entry) (items : List PlainItem) (closed : List Queued) (chain : ℕ) (text : List ℕ) → IsNextCommit j entry items → Appends j.log (commit_bytes entry items) closed chain text → IsJournal (with_commit j entry items closed chain text) calls
   journal-commit entry items closed chain text c a = record {
     reading = h.reading;
-    closed = a.blocks;
-    fewer = h.fewer;
-    most = omega (arith, h.most, length-append j.blocks closed);
-    records = records-closed j.base j.blocks closed j.text text (commit_bytes entry items) j.records (j.records ++ items ∷ [])
-        (All-push IsCommit j.records items h.records.each c.items_are) h.records a.joined
-        (ap (λ (n : ℕ). commits_bytes j.base j.records ++ record_bytes (TransactionRecord n items)) (c.number ∙ ap (λ (n : ℕ). j.base + n + 1) (sym h.log.one_each))
-        ∙ sym (commits_bytes-push j.base j.records items));
-    marked = marked-more calls j.base (j.blocks ++ closed) j.settled j.history j.records j.marks entry items h.log.one_each c.settled
-        (marked-closed calls j.base j.blocks closed j.settled j.history j.records j.marks (omega (arith, h.fewer, h.most)) h.marked);
-    few = few-more j.super j.txns j.history j.records entry items h.few c.few c.id c.store;
+    tail = tail-closed closed chain text a.blocks;
+    records = records-closed j.opening.base j.log.tail.blocks closed j.log.tail.text text (commit_bytes entry items) j.commits.records (j.commits.records ++ items ∷ [])
+        (All-push IsCommit j.commits.records items h.records.each c.items_are) h.records a.joined
+        (ap (λ (n : ℕ). commits_bytes j.opening.base j.commits.records ++ record_bytes (TransactionRecord n items)) (c.number ∙ ap (λ (n : ℕ). j.opening.base + n + 1) (sym h.replays.one_each))
+        ∙ sym (commits_bytes-push j.opening.base j.commits.records items));
+    marked = marked-more calls j.opening.base (j.log.tail.blocks ++ closed) j.log.tail.settled j.commits.history j.commits.records j.commits.marks entry items h.replays.one_each c.settled
+        (marked-closed calls j.opening.base j.log.tail.blocks closed j.log.tail.settled j.commits.history j.commits.records j.commits.marks (omega (arith, h.tail.fewer, h.tail.most)) h.marked);
+    few = few-more j.log.head.super j.opening.txns j.commits.history j.commits.records entry items h.few c.few c.id c.store;
     legal = c.legal;
-    log = c.log;
+    replays = c.replays;
   }
 
-  pub journal-close : (closed : List Queued) (chain : ℕ) (text : List ℕ) → Appends j [] closed chain text → IsJournal (with_closed j closed chain text) calls
+  pub journal-close : (closed : List Queued) (chain : ℕ) (text : List ℕ) → Appends j.log [] closed chain text → IsJournal (with_closed j closed chain text) calls
   journal-close closed chain text a = record {
     reading = h.reading;
-    closed = a.blocks;
-    fewer = h.fewer;
-    most = omega (arith, h.most, length-append j.blocks closed);
-    records = records-closed j.base j.blocks closed j.text text [] j.records j.records h.records.each h.records a.joined (append-nil (commits_bytes j.base j.records));
-    marked = marked-closed calls j.base j.blocks closed j.settled j.history j.records j.marks (omega (arith, h.fewer, h.most)) h.marked;
+    tail = tail-closed closed chain text a.blocks;
+    records = records-closed j.opening.base j.log.tail.blocks closed j.log.tail.text text [] j.commits.records j.commits.records h.records.each h.records a.joined (append-nil (commits_bytes j.opening.base j.commits.records));
+    marked = marked-closed calls j.opening.base j.log.tail.blocks closed j.log.tail.settled j.commits.history j.commits.records j.commits.marks (omega (arith, h.tail.fewer, h.tail.most)) h.marked;
     few = h.few;
     legal = h.legal;
-    log = h.log;
+    replays = h.replays;
   }
 
   -- further calls of the disk
   pub journal-calls : (more : ℕ) → calls ≤ more → IsJournal j more
   journal-calls more le = record {
     reading = h.reading;
-    closed = h.closed;
-    fewer = h.fewer;
-    most = h.most;
+    tail = h.tail;
     records = h.records;
-    marked = marked-flushed calls more j.base j.blocks j.settled j.settled j.history j.records j.marks le (omega arith) h.marked;
+    marked = marked-flushed calls more j.opening.base j.log.tail.blocks j.log.tail.settled j.log.tail.settled j.commits.history j.commits.records j.commits.marks le (omega arith) h.marked;
     few = h.few;
     legal = h.legal;
-    log = h.log;
+    replays = h.replays;
   }
 
-  pub journal-write : (more : ℕ) → calls ≤ more → j.written < length j.blocks → IsJournal (with_written j) more
+  pub journal-write : (more : ℕ) → calls ≤ more → j.log.tail.written < length j.log.tail.blocks → IsJournal (with_written j) more
   journal-write more le some = record {
     reading = h.reading;
-    closed = h.closed;
-    fewer = omega (arith, h.fewer);
-    most = omega arith;
+    tail = record { closed = h.tail.closed; fewer = omega (arith, h.tail.fewer); most = omega arith };
     records = h.records;
-    marked = marked-flushed calls more j.base j.blocks j.settled j.settled j.history j.records j.marks le (omega arith) h.marked;
+    marked = marked-flushed calls more j.opening.base j.log.tail.blocks j.log.tail.settled j.log.tail.settled j.commits.history j.commits.records j.commits.marks le (omega arith) h.marked;
     few = h.few;
     legal = h.legal;
-    log = h.log;
-  }
-
-  pub journal-flush : (more : ℕ) → calls ≤ more → IsJournal (with_flushed j) more
-  journal-flush more le = record {
-    reading = h.reading;
-    closed = h.closed;
-    fewer = omega arith;
-    most = h.most;
-    records = h.records;
-    marked = marked-flushed calls more j.base j.blocks j.settled j.written j.history j.records j.marks le h.fewer h.marked;
-    few = h.few;
-    legal = h.legal;
-    log = h.log;
+    replays = h.replays;
   }
 
   -- all was written and is flushed now
-  pub journal-settle : (more : ℕ) → calls ≤ more → 1 ≤ more → IsWrittenOut j → IsJournal (with_settled more j) more
+  pub journal-settle : (more : ℕ) → calls ≤ more → 1 ≤ more → IsWrittenOut j.log.tail → IsJournal (with_settled more j) more
   journal-settle more le some out = record {
     reading = h.reading;
-    closed = h.closed;
-    fewer = omega arith;
-    most = h.most;
+    tail = record { closed = h.tail.closed; fewer = omega arith; most = h.tail.most };
     records = h.records;
     marked = record {
-      few = omega (arith, settle_length more j.history);
-      first = first_all more j.history some;
-      by_now = settle_most more j.history all-before;
+      few = omega (arith, settle_length more j.commits.history);
+      first = first_all more j.commits.history some;
+      by_now = settle_most more j.commits.history all-before;
       whole = omega (arith, ap length (sym whole));
     };
-    few = few-settled j.super j.txns j.history (settle more j.history) j.records (settle_length more j.history) h.few;
-    legal = legal_settle j.tree j.base more j.history h.legal some all-before;
-    log = log_settled j.tree j.base j.txns j.history (settle more j.history) j.records h.log (settle_length more j.history) (λ n. tree_at_settle j.tree more j.history n);
+    few = few-settled j.log.head.super j.opening.txns j.commits.history (settle more j.commits.history) j.commits.records (settle_length more j.commits.history) h.few;
+    legal = legal_settle j.opening.tree j.opening.base more j.commits.history h.legal some all-before;
+    replays = replay_settled j.opening.tree j.opening.base j.opening.txns j.commits.history (settle more j.commits.history) j.commits.records h.replays (settle_length more j.commits.history) (λ n. tree_at_settle j.opening.tree more j.commits.history n);
   }
     where
-      all-before : All (λ (e : Entry). e.settled ≤ more) j.history
+      all-before : All (λ (e : Entry). e.settled ≤ more) j.commits.history
       all-before = λ i d lt. omega (arith, h.marked.by_now i d lt)
 
       -- all blocks are all of the records
-      whole : texts (take j.written j.blocks) ≡ commits_bytes j.base (take (length j.history) j.records)
+      whole : texts (take j.log.tail.written j.log.tail.blocks) ≡ commits_bytes j.opening.base (take (length j.commits.history) j.commits.records)
       whole =
-          ap (λ (n : ℕ). texts (take n j.blocks)) out.written ∙ ap texts (take-length j.blocks)
-          ∙ sym (append-nil (texts j.blocks))
-          ∙ ap (λ (w : List ℕ). texts j.blocks ++ w) (sym out.text) ∙ h.records.joined
-          ∙ ap (commits_bytes j.base) (sym (ap (λ (n : ℕ). take n j.records) (sym h.log.one_each) ∙ take-length j.records))
+          ap (λ (n : ℕ). texts (take n j.log.tail.blocks)) out.written ∙ ap texts (take-length j.log.tail.blocks)
+          ∙ sym (append-nil (texts j.log.tail.blocks))
+          ∙ ap (λ (w : List ℕ). texts j.log.tail.blocks ++ w) (sym out.text) ∙ h.records.joined
+          ∙ ap (commits_bytes j.opening.base) (sym (ap (λ (n : ℕ). take n j.commits.records) (sym h.replays.one_each) ∙ take-length j.commits.records))

@@ -9,7 +9,6 @@ pub mod JournalStart
 pub mod JournalCalls
 pub mod MountCalls
 pub mod JournalTold
-pub mod Waiting
 pub mod Mounted
 pub mod MountUnfinished
 pub mod NextCommit

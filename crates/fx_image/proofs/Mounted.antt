@@ -10,30 +10,31 @@ use Rattle.fx_jblock.specs.declared.Start.{Start}
 use Rattle.fx_journal.specs.declared.stream.StreamBlock.{StreamBlock}
 use Rattle.fx_journal.specs.Ring.{RingState, IsRing, Queued, HoldsQueue, Appended, first_place, next_block, number, padded, padding, without_first}
 use Rattle.fx_journal.specs.Writing.{block_at, first_bytes}
-use Rattle.fx_journal.proofs.Writes.{made-as}
 use Rattle.fx_pool.specs.Region.{Region, Run}
 use Rattle.fx_super.specs.Super.{Fields}
 use Rattle.fx_log.specs.Chosen.{start_of}
 use Rattle.fx_log.specs.Ring.{place_in, bytes_in}
 use Rattle.fx_image.specs.Standing.{Transactions, StandsFor, items_after}
-use Rattle.fx_image.specs.Journal.{Journal, IsJournal, IsReading, IsNextCommit, IsOnDisk, IsWrittenOut, begun_journal, commit_bytes, with_commit, with_closed, with_written, with_flushed, with_settled}
+use Rattle.fx_log.specs.Log.{IsRingOf, IsWrittenOut}
+use Rattle.fx_image.specs.Journal.{Journal, IsJournal, IsReading, IsNextCommit, IsOnDisk, new_journal, commit_bytes, with_commit, with_closed, with_written, with_settled}
 use Rattle.fx_image.specs.Prefix.{KeepsPrefix, KeepsAll}
 use Rattle.fx_image.specs.Mounted.{IsMounted}
-use Rattle.fx_image.proofs.JournalStart.{journal-begun, series-next}
-use Rattle.fx_image.proofs.JournalSteps.{journal-calls, journal-commit, journal-close, journal-write, journal-flush, journal-settle}
-use Rattle.fx_image.proofs.JournalTold.{told-all, told-commit, told-close, told-keeps, told-tried, told-written, told-flush-tried, told-flushed, told-settled}
-use Rattle.fx_image.proofs.Waiting.{first-is, appended, appended-ring, padding-appends, padding-ring, next-queued, next-lt, next-place, next-bytes, written-ring, none-waits, all-written}
+use Rattle.fx_image.proofs.JournalStart.{journal-new}
+use Rattle.fx_log.proofs.LogRaised.{series-next}
+use Rattle.fx_image.proofs.JournalSteps.{log-is, journal-calls, journal-commit, journal-close, journal-write, journal-settle}
+use Rattle.fx_image.proofs.JournalTold.{told-all, told-commit, told-close, told-tried, told-written, told-flush-tried, told-settled}
+use Rattle.fx_log.proofs.LogRing.{first-is, appended, appended-ring, padding-appends, padding-ring, next-queued, next-lt, next-place, next-bytes, written-ring, none-waits, all-written, made-as}
 use Rattle.fx_disk.proofs.Frames.{no_fewer_calls}
 use Rattle.fx_disk.proofs.Made.{made-counts}
 
 -- ---- a disk that was just mounted
 
-pub mounted-begun : (size from : ℕ) (tree : Tree) (base : ℕ) (super : Fields) (read : List StreamBlock) (place : Start) (txns : Transactions) (calls : ℕ) (told : Option DiskRecord) (ring : RingState) (region : Region)
-    → IsReading size base super read place txns → length read ≤ super.ring → StandsFor (items_after txns) tree → IfSome told (IsOnDisk (begun_journal size from tree base super read place txns))
+pub mounted-new : (size from : ℕ) (tree : Tree) (base : ℕ) (super : Fields) (read : List StreamBlock) (place : Start) (txns : Transactions) (calls : ℕ) (told : Option DiskRecord) (ring : RingState) (region : Region)
+    → IsReading size base super read place txns → length read ≤ super.ring → StandsFor (items_after txns) tree → IfSome told (IsOnDisk (new_journal size from tree base super read place txns))
     → ring ≡ record { start = start_of super; size = super.ring; epoch = super.generation + 1; closed = length read; chain = place.chain; text = []; promised = 0; queued = 0; buffers = [] }
-    → IsMounted (begun_journal size from tree base super read place txns) calls told ring region
-mounted-begun size from tree base super read place txns calls told ring region reading fits stands disk e = record {
-  journal = journal-begun size from tree base super read place txns reading fits calls stands;
+    → IsMounted (new_journal size from tree base super read place txns) calls told ring region
+mounted-new size from tree base super read place txns calls told ring region reading fits stands disk e = record {
+  journal = journal-new size from tree base super read place txns reading fits calls stands;
   disk = disk;
   ring_is = record {
     sequence = ap (λ (x : RingState). x.start.sequence) e;
@@ -60,52 +61,48 @@ module _ (j : Journal) (count : ℕ) (told : Option DiskRecord) (ring : RingStat
       closed = ap (λ (x : RingState). x.closed) e ∙ m.ring_is.closed;
       chain = ap (λ (x : RingState). x.chain) e ∙ m.ring_is.chain;
       text = ap (λ (x : RingState). x.text) e ∙ m.ring_is.text;
-      queue = holds (drop j.written j.blocks) m.ring_is.queue;
+      queue = holds (drop j.log.tail.written j.log.tail.blocks) m.ring_is.queue;
     };
   }
-
-  -- the disk made further calls that change nothing that it tells of its blocks
-  pub mounted-calls : (more : ℕ) → count ≤ more → IsMounted j more told ring region
-  mounted-calls more le = record { journal = journal-calls j count m.journal more le; disk = m.disk; ring_is = m.ring_is }
 
   -- ---- a commit
   pub mounted-commit : (entry : Entry) (items : List PlainItem) → IsNextCommit j entry items
       → (new : RingState) (pool : Region) → IsRing new → new.start ≡ ring.start → new.size ≡ ring.size → new.epoch ≡ ring.epoch → new.queued + ring.closed ≡ ring.queued + new.closed
-      → (a : Appended ring new pool (drop j.written j.blocks) (commit_bytes entry items))
+      → (a : Appended ring new pool (drop j.log.tail.written j.log.tail.blocks) (commit_bytes entry items))
       → IsMounted (with_commit j entry items a.blocks new.chain new.text) count told new pool
   mounted-commit entry items c new pool is start size epoch queued a =
-      let appends = appended j count m.journal ring region m.ring_is new pool (commit_bytes entry items) is start size epoch queued a in
+      let appends = appended j.log (log-is j count m.journal) ring region m.ring_is new pool (commit_bytes entry items) is start size epoch queued a in
       record {
         journal = journal-commit j count m.journal entry items a.blocks new.chain new.text c appends;
-        disk = told-commit told j m.disk entry items a.blocks new.chain new.text c appends.blocks;
-        ring_is = appended-ring j count m.journal ring region m.ring_is new pool (commit_bytes entry items) is start size epoch queued a entry items;
+        disk = told-commit told j count m.journal m.disk entry items a.blocks new.chain new.text c appends.blocks;
+        ring_is = appended-ring j.log (log-is j count m.journal) ring region m.ring_is new pool (commit_bytes entry items) is start size epoch queued a;
       }
 
   -- ---- the unfinished block is closed
-  pub mounted-padded : (new : RingState) (pool : Region) → IsRing new → new ≡ padded ring → HoldsQueue new pool (drop j.written j.blocks ++ padding ring)
+  pub mounted-padded : (new : RingState) (pool : Region) → IsRing new → new ≡ padded ring → HoldsQueue new pool (drop j.log.tail.written j.log.tail.blocks ++ padding ring)
       → IsMounted (with_closed j (padding ring) new.chain new.text) count told new pool
   mounted-padded new pool is e holds =
-      let appends = padding-appends j count m.journal ring region m.ring_is new pool is e holds in
+      let appends = padding-appends j.log (log-is j count m.journal) ring region m.ring_is new pool is e holds in
       record {
         journal = journal-close j count m.journal (padding ring) new.chain new.text appends;
-        disk = told-close told j m.disk (padding ring) new.chain new.text appends.blocks;
-        ring_is = padding-ring j count m.journal ring region m.ring_is new pool is e holds;
+        disk = told-close told j count m.journal m.disk (padding ring) new.chain new.text appends.blocks;
+        ring_is = padding-ring j.log (log-is j count m.journal) ring region m.ring_is new pool is e holds;
       }
 
   -- ---- calls of the disk
   module _ (size : ℕ) (is : IfSome told (IsRecordOf size count)) (after : Option DiskRecord) (counted : ℕ) (made ok : Bool) where
     -- the write of the first block that is not written
     module _ (before sequence : ℕ) (next : next_block ring before ≡ Some sequence)
-        (w : MadeOrNot count counted made ok (Writes told after (block_at ring sequence) (first_bytes ring.epoch (drop j.written j.blocks)) ok) (after ≡ told)) where
+        (w : MadeOrNot count counted made ok (Writes told after (block_at ring sequence) (first_bytes ring.epoch (drop j.log.tail.written j.log.tail.blocks)) ok) (after ≡ told)) where
       abbrev q : Queued
-      q = (next-queued j count m.journal ring region m.ring_is before sequence next).0
+      q = (next-queued j.log (log-is j count m.journal) ring region m.ring_is before sequence next).0
 
-      here : slice_get j.blocks j.written ≡ Some q
-      here = (next-queued j count m.journal ring region m.ring_is before sequence next).1
+      here : slice_get j.log.tail.blocks j.log.tail.written ≡ Some q
+      here = (next-queued j.log (log-is j count m.journal) ring region m.ring_is before sequence next).1
 
-      writes : MadeOrNot count counted made ok (Writes told after (place_in j.super.ring q) (bytes_in (j.super.generation + 1) q) ok) (after ≡ told)
-      writes = made-as count counted made ok told after (block_at ring sequence) (place_in j.super.ring q) (first_bytes ring.epoch (drop j.written j.blocks)) (bytes_in (j.super.generation + 1) q) (after ≡ told)
-          (next-place j count m.journal ring region m.ring_is before sequence next) (next-bytes j count m.journal ring region m.ring_is before sequence next) w
+      writes : MadeOrNot count counted made ok (Writes told after (place_in j.log.head.super.ring q) (bytes_in (j.log.head.super.generation + 1) q) ok) (after ≡ told)
+      writes = made-as count counted made ok told after (block_at ring sequence) (place_in j.log.head.super.ring q) (first_bytes ring.epoch (drop j.log.tail.written j.log.tail.blocks)) (bytes_in (j.log.head.super.generation + 1) q) (after ≡ told)
+          (next-place j.log (log-is j count m.journal) ring region m.ring_is before sequence next) (next-bytes j.log (log-is j count m.journal) ring region m.ring_is before sequence next) w
 
       -- It failed, or was not made.
       pub mounted-tried : IsMounted j counted after ring region
@@ -116,11 +113,11 @@ module _ (j : Journal) (count : ℕ) (told : Option DiskRecord) (ring : RingStat
       }
 
       -- It was good.
-      pub mounted-written : ok ≡ true → (new : RingState) (pool : Region) → new ≡ without_first ring → HoldsQueue new pool (drop 1 (drop j.written j.blocks)) → IsMounted (with_written j) counted after new pool
+      pub mounted-written : ok ≡ true → (new : RingState) (pool : Region) → new ≡ without_first ring → HoldsQueue new pool (drop 1 (drop j.log.tail.written j.log.tail.blocks)) → IsMounted (with_written j) counted after new pool
       mounted-written good new pool e holds = record {
-        journal = journal-write j count m.journal counted (no_fewer_calls count counted made ok _ _ w) (next-lt j count m.journal ring region m.ring_is before sequence next);
+        journal = journal-write j count m.journal counted (no_fewer_calls count counted made ok _ _ w) (next-lt j.log (log-is j count m.journal) ring region m.ring_is before sequence next);
         disk = told-written j size count m.journal told after is m.disk counted made ok q here writes good;
-        ring_is = written-ring j count m.journal ring region m.ring_is new pool e holds;
+        ring_is = written-ring j.log (log-is j count m.journal) ring region m.ring_is new pool e holds;
       }
 
     -- a flush
@@ -133,16 +130,8 @@ module _ (j : Journal) (count : ℕ) (told : Option DiskRecord) (ring : RingStat
         ring_is = m.ring_is;
       }
 
-      -- It was good: what was written is settled.
-      pub mounted-flushed : ok ≡ true → IsMounted (with_flushed j) counted after ring region
-      mounted-flushed good = record {
-        journal = journal-flush j count m.journal counted (no_fewer_calls count counted made ok _ _ w);
-        disk = told-flushed j size count m.journal told after is m.disk counted made ok w good;
-        ring_is = record { sequence = m.ring_is.sequence; size = m.ring_is.size; epoch = m.ring_is.epoch; closed = m.ring_is.closed; chain = m.ring_is.chain; text = m.ring_is.text; queue = m.ring_is.queue };
-      }
-
-      -- And all was written: each commit is settled.
-      pub mounted-settled : ok ≡ true → IsWrittenOut j → IsMounted (with_settled (count + 1) j) counted after ring region
+      -- It was good, and all was written: each commit is settled.
+      pub mounted-settled : ok ≡ true → IsWrittenOut j.log.tail → IsMounted (with_settled (count + 1) j) counted after ring region
       mounted-settled good out =
           let same : counted ≡ count + 1 = made-counts count counted made ok _ _ good w in
           record {
@@ -157,22 +146,18 @@ module _ (j : Journal) (count : ℕ) (told : Option DiskRecord) (ring : RingStat
   pub mounted-low : number (first_place ring) < 2 ^ 63
   mounted-low =
       let reading = m.journal.reading in
-      let at : j.place.sequence ≡ j.super.sequence + length j.read = series-next j.super.generation (start_of j.super) j.place j.read reading.series in
-      omega (arith, first-is j count m.journal ring region m.ring_is, at, reading.rules.sequence_below, reading.rules.ring_most, m.journal.closed.room, m.journal.most)
+      let at : j.log.head.place.sequence ≡ j.log.head.super.sequence + length j.log.head.read = series-next j.log.head.super.generation (start_of j.log.head.super) j.log.head.place j.log.head.read reading.head.series in
+      omega (arith, first-is j.log (log-is j count m.journal) ring region m.ring_is, at, reading.head.rules.sequence_below, reading.head.rules.ring_most, m.journal.tail.closed.room, m.journal.tail.most)
 
-  pub mounted-out : (before : ℕ) → 2 ^ 63 ≤ before → next_block ring before ≡ None → ring.text ≡ [] → IsWrittenOut j
-  mounted-out before high none empty = all-written j count m.journal ring region m.ring_is (none-waits j count m.journal ring region m.ring_is before none (omega (arith, mounted-low))) empty
+  pub mounted-out : (before : ℕ) → 2 ^ 63 ≤ before → next_block ring before ≡ None → ring.text ≡ [] → IsWrittenOut j.log.tail
+  mounted-out before high none empty = all-written j.log (log-is j count m.journal) ring region m.ring_is (none-waits j.log (log-is j count m.journal) ring region m.ring_is before none (omega (arith, mounted-low))) empty
 
   -- ---- what a stop leaves
 
-  -- at each moment since the mount
-  pub mounted-keeps : IfSome told (KeepsPrefix j.size j.from j.tree j.base j.history)
-  mounted-keeps = told-keeps told j m.disk
-
-  -- and now, where all is settled
-  pub mounted-all : IsWrittenOut j → j.settled ≡ j.written → IfSome told (KeepsAll j.size j.from j.tree j.base j.history)
-  mounted-all out all = told-all told j m.disk count m.journal out all
+  -- now, where all is settled
+  pub mounted-all : IsWrittenOut j.log.tail → j.log.tail.settled ≡ j.log.tail.written → IfSome told (KeepsAll j.log.size j.log.from j.opening.tree j.opening.base j.commits.history)
+  mounted-all out all = told-all told j count m.journal m.disk out all
 
 -- a journal that was written out still is, once it is settled
-pub settled-out : (calls : ℕ) (j : Journal) → IsWrittenOut j → IsWrittenOut (with_settled calls j)
+pub settled-out : (calls : ℕ) (j : Journal) → IsWrittenOut j.log.tail → IsWrittenOut (with_settled calls j).log.tail
 settled-out calls j out = record { written = out.written; text = out.text }

@@ -11,16 +11,16 @@ use Rattle.fx_record.specs.Txns.{IsTxns}
 use Rattle.fx_record.proofs.Fronts.{one_answer}
 use Rattle.fx_super.specs.Super.{Fields, KeepsRules}
 use Rattle.fx_super.proofs.Chosen.{one_chosen}
-use Rattle.fx_log.specs.Chosen.{Chooses, start_of}
-use Rattle.fx_image.specs.Standing.{Transactions, IsImage, items_after, pieces_of}
+use Rattle.fx_log.specs.Chosen.{ChoosesSuper, start_of}
+use Rattle.fx_image.specs.Standing.{Transactions, IsImage, items_after, stream_pieces}
 use Rattle.fx_log.proofs.SuperChoice.{one_super, rules_chosen, stream_chosen}
 
 module _ (size : ℕ) (image : List (List ℕ)) (f : Fields) where
   pub one_journal : (xs ys : Transactions) (t u : Tree) → IsImage size image f xs t → IsImage size image f ys u → xs ≡ ys
   one_journal xs ys t u a b =
       let same = stream_chosen image f a.next b.next a.stream b.stream (rules_chosen image f a.chosen) a.stream_is b.stream_is in
-      let other : IsTxns f.base (pieces_of a.stream) ys = subst (λ (s : List StreamBlock). IsTxns f.base (pieces_of s) ys) (sym same.0) b.txns_are in
-      one_answer f.base (pieces_of a.stream) xs ys a.txns_are other
+      let other : IsTxns f.base (stream_pieces a.stream) ys = subst (λ (s : List StreamBlock). IsTxns f.base (stream_pieces s) ys) (sym same.0) b.txns_are in
+      one_answer f.base (stream_pieces a.stream) xs ys a.txns_are other
 
   pub one_image : (xs ys : Transactions) (t u : Tree) → IsImage size image f xs t → IsImage size image f ys u → (xs ≡ ys) × (t ≡ u)
   one_image xs ys t u a b =

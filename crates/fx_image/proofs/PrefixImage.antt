@@ -23,10 +23,10 @@ use Rattle.fx_plain.specs.Bare.{bare}
 use Rattle.fx_history.specs.declared.entry.Entry.{Entry}
 use Rattle.fx_history.specs.History.{tree_at}
 use Rattle.fx_super.specs.Super.{Fields}
-use Rattle.fx_image.specs.Standing.{Transactions, StandsFor, IsImage, HasRoom, HasAmpleRoom, kept, items_after, lists_of, pieces_of}
+use Rattle.fx_image.specs.Standing.{Transactions, StandsFor, IsImage, HasSessionRoom, HasAmpleRoom, kept, items_after, lists_of, stream_pieces}
 use Rattle.fx_log.specs.Ring.{KeepsStream, as_stream}
-use Rattle.fx_log.specs.Chosen.{Chooses, next_generation, start_of}
-use Rattle.fx_image.specs.Prefix.{IsPrefix, IsWhole}
+use Rattle.fx_log.specs.Chosen.{ChoosesSuper, next_generation, start_of}
+use Rattle.fx_image.specs.Prefix.{IsPrefix, HasWholeHistory}
 use Rattle.fx_image.specs.Journal.{Journal, IsJournal}
 
 -- ---- texts
@@ -39,19 +39,19 @@ texts-are [] = refl
 texts-are (q ∷ qs) = ap (λ (w : List ℕ). q.text ++ w) (texts-are qs)
 
 -- the closed blocks as pieces of one epoch
-pub pieces-closed : (epoch : ℕ) (blocks : List Queued) → pieces_of (as_stream epoch blocks) ≡ blocks_of epoch (map text_of blocks)
+pub pieces-closed : (epoch : ℕ) (blocks : List Queued) → stream_pieces (as_stream epoch blocks) ≡ blocks_of epoch (map text_of blocks)
 pieces-closed epoch [] = refl
 pieces-closed epoch (q ∷ qs) = ap (λ (w : List (ℕ × List ℕ)). (epoch, q.text) ∷ w) (pieces-closed epoch qs)
 
-pub pieces-joined : (xs ys : List StreamBlock) → pieces_of (xs ++ ys) ≡ pieces_of xs ++ pieces_of ys
+pub pieces-joined : (xs ys : List StreamBlock) → stream_pieces (xs ++ ys) ≡ stream_pieces xs ++ stream_pieces ys
 pieces-joined xs ys = map-append (λ (b : StreamBlock). (b.epoch, b.records)) xs ys
 
-pub pieces-before : (generation : ℕ) (start next : Start) (blocks : List StreamBlock) → IsSeries generation start blocks next → AreBefore (generation + 1) (pieces_of blocks)
+pub pieces-before : (generation : ℕ) (start next : Start) (blocks : List StreamBlock) → IsSeries generation start blocks next → AreBefore (generation + 1) (stream_pieces blocks)
 pieces-before generation start next [] h = All-nil (λ (b : ℕ × List ℕ). b.0 < generation + 1)
 pieces-before generation start next (b ∷ bs) h =
     let most : b.epoch ≤ generation = h.0.most in
     let here : b.epoch < generation + 1 = omega arith in
-    All-cons (λ (p : ℕ × List ℕ). p.0 < generation + 1) (b.epoch, b.records) (pieces_of bs) here (pieces-before generation (place_after start b) next bs h.1)
+    All-cons (λ (p : ℕ × List ℕ). p.0 < generation + 1) (b.epoch, b.records) (stream_pieces bs) here (pieces-before generation (place_after start b) next bs h.1)
 
 -- the texts of fewer blocks are no longer
 pub texts-fewer : (blocks : List Queued) (m n : ℕ) → m ≤ n → length (texts (take m blocks)) ≤ length (texts (take n blocks))
@@ -94,7 +94,7 @@ stores-fewer next k old lists =
 pub room-left : (f : Fields) (txns now : Transactions) (more k : ℕ) (records : List (List PlainItem)) → lists_of now ≡ lists_of txns ++ take k records → kept (next_generation f) now ≤ kept f txns + more → more ≤ 2 ^ 20
     → next_id_after f.next_id (lists_of txns ++ records) ≤ next_id_after f.next_id (lists_of txns) + more
     → next_store_after f.next_store (lists_of txns ++ records) ≤ next_store_after f.next_store (lists_of txns) + more
-    → HasAmpleRoom f txns → HasRoom (next_generation f) now
+    → HasAmpleRoom f txns → HasSessionRoom (next_generation f) now
 room-left f txns now more k records lists few short ids stores h =
     let mine : next_id_after f.next_id (lists_of now) ≤ next_id_after f.next_id (lists_of txns) + more =
     omega (arith, ap (next_id_after f.next_id) lists, ids-fewer f.next_id k (lists_of txns) records) in
@@ -109,98 +109,98 @@ room-left f txns now more k records lists few short ids stores h =
     }
 
 -- An image with the superblock of the next generation, and the first of the closed blocks.
-module _ (j : Journal) (calls : ℕ) (h : IsJournal j calls) (image : List (List ℕ)) (chosen : Chooses (next_generation j.super) image) (s : KeepsStream image j.super j.read j.blocks j.settled) where
+module _ (j : Journal) (calls : ℕ) (h : IsJournal j calls) (image : List (List ℕ)) (chosen : ChoosesSuper (next_generation j.log.head.super) image) (s : KeepsStream image j.log.head.super j.log.head.read j.log.tail.blocks j.log.tail.settled) where
   abbrev last : ℕ
-  last = kept j.super j.txns
+  last = kept j.log.head.super j.opening.txns
 
   abbrev stood : List Queued
-  stood = take s.count j.blocks
+  stood = take s.count j.log.tail.blocks
 
   abbrev rest : List ℕ
-  rest = texts (drop s.count j.blocks) ++ j.text
+  rest = texts (drop s.count j.log.tail.blocks) ++ j.log.tail.text
 
-  joined : concat (map text_of stood) ++ rest ≡ commits_bytes last j.records
+  joined : concat (map text_of stood) ++ rest ≡ commits_bytes last j.commits.records
   joined =
       ap (λ (w : List ℕ). w ++ rest) (sym (texts-are stood))
-      ∙ sym (append_assoc (texts stood) (texts (drop s.count j.blocks)) j.text)
-      ∙ ap (λ (w : List ℕ). w ++ j.text) (sym (texts-split s.count j.blocks))
+      ∙ sym (append_assoc (texts stood) (texts (drop s.count j.log.tail.blocks)) j.log.tail.text)
+      ∙ ap (λ (w : List ℕ). w ++ j.log.tail.text) (sym (texts-split s.count j.log.tail.blocks))
       ∙ h.records.joined
-      ∙ ap (λ (n : ℕ). commits_bytes n j.records) (sym h.reading.base_is)
+      ∙ ap (λ (n : ℕ). commits_bytes n j.commits.records) (sym h.reading.base_is)
 
   -- the commits whose records stand there
-  stopped : (count : ℕ) × CutsCommits last j.records (concat (map text_of stood)) count
-      × IsTxns j.super.base (pieces_of j.read ++ blocks_of (j.super.generation + 1) (map text_of stood)) (j.txns ++ numbered last (take count j.records))
-      × (rest ≡ [] → count ≡ length j.records)
+  stopped : (count : ℕ) × CutsCommits last j.commits.records (concat (map text_of stood)) count
+      × IsTxns j.log.head.super.base (stream_pieces j.log.head.read ++ blocks_of (j.log.head.super.generation + 1) (map text_of stood)) (j.opening.txns ++ numbered last (take count j.commits.records))
+      × (rest ≡ [] → count ≡ length j.commits.records)
   stopped =
-      let fits : last + length j.records < 2 ^ 64 = omega (arith, h.reading.room.commits, h.log.one_each, h.few.few) in
-      stopped_session j.super.base (j.super.generation + 1) (pieces_of j.read) j.txns j.records (map text_of stood) rest h.reading.txns_are
-      (pieces-before j.super.generation (start_of j.super) j.place j.read h.reading.series) fits h.records.each joined
+      let fits : last + length j.commits.records < 2 ^ 64 = omega (arith, h.reading.room.commits, h.replays.one_each, h.few.few) in
+      stopped_session j.log.head.super.base (j.log.head.super.generation + 1) (stream_pieces j.log.head.read) j.opening.txns j.commits.records (map text_of stood) rest h.reading.txns_are
+      (pieces-before j.log.head.super.generation (start_of j.log.head.super) j.log.head.place j.log.head.read h.reading.head.series) fits h.records.each joined
 
   abbrev now : Transactions
-  now = j.txns ++ numbered last (take stopped.0 j.records)
+  now = j.opening.txns ++ numbered last (take stopped.0 j.commits.records)
 
-  lists-now : lists_of now ≡ lists_of j.txns ++ take stopped.0 j.records
-  lists-now = map-append (λ (t : ℕ × List PlainItem). t.1) j.txns (numbered last (take stopped.0 j.records)) ∙ ap (λ (w : List (List PlainItem)). lists_of j.txns ++ w) (map-numbered last (take stopped.0 j.records))
+  lists-now : lists_of now ≡ lists_of j.opening.txns ++ take stopped.0 j.commits.records
+  lists-now = map-append (λ (t : ℕ × List PlainItem). t.1) j.opening.txns (numbered last (take stopped.0 j.commits.records)) ∙ ap (λ (w : List (List PlainItem)). lists_of j.opening.txns ++ w) (map-numbered last (take stopped.0 j.commits.records))
 
-  kept-now : kept (next_generation j.super) now ≡ j.base + stopped.0
-  kept-now = omega (arith, length-append j.txns (numbered last (take stopped.0 j.records)), length-numbered last (take stopped.0 j.records), length-take stopped.0 j.records, stopped.1.most, h.reading.base_is)
+  kept-now : kept (next_generation j.log.head.super) now ≡ j.opening.base + stopped.0
+  kept-now = omega (arith, length-append j.opening.txns (numbered last (take stopped.0 j.commits.records)), length-numbered last (take stopped.0 j.commits.records), length-take stopped.0 j.commits.records, stopped.1.most, h.reading.base_is)
 
-  stands-now : StandsFor (items_after now) (bare (tree_at j.tree j.history (kept (next_generation j.super) now)))
+  stands-now : StandsFor (items_after now) (bare (tree_at j.opening.tree j.commits.history (kept (next_generation j.log.head.super) now)))
   stands-now =
-      subst (λ (n : ℕ). StandsFor (items_after now) (bare (tree_at j.tree j.history n))) (sym kept-now)
-      (subst (λ (lists : List (List PlainItem)). StandsFor (after_all lists) (bare (tree_at j.tree j.history (j.base + stopped.0)))) (sym lists-now)
-      (h.log.stands stopped.0 stopped.1.most))
+      subst (λ (n : ℕ). StandsFor (items_after now) (bare (tree_at j.opening.tree j.commits.history n))) (sym kept-now)
+      (subst (λ (lists : List (List PlainItem)). StandsFor (after_all lists) (bare (tree_at j.opening.tree j.commits.history (j.opening.base + stopped.0)))) (sym lists-now)
+      (h.replays.stands stopped.0 stopped.1.most))
 
-  image-now : IsImage j.size image (next_generation j.super) now (bare (tree_at j.tree j.history (kept (next_generation j.super) now)))
+  image-now : IsImage j.log.size image (next_generation j.log.head.super) now (bare (tree_at j.opening.tree j.commits.history (kept (next_generation j.log.head.super) now)))
   image-now = record {
     chosen = chosen;
-    blocks = h.reading.blocks;
+    blocks = h.reading.head.blocks;
     layers = h.reading.layers;
-    stream = j.read ++ as_stream (j.super.generation + 1) stood;
+    stream = j.log.head.read ++ as_stream (j.log.head.super.generation + 1) stood;
     next = s.next;
     stream_is = s.stream;
-    txns_are = subst (λ (w : List (ℕ × List ℕ)). IsTxns j.super.base w now)
-        (sym (pieces-joined j.read (as_stream (j.super.generation + 1) stood) ∙ ap (λ (w : List (ℕ × List ℕ)). pieces_of j.read ++ w) (pieces-closed (j.super.generation + 1) stood)))
+    txns_are = subst (λ (w : List (ℕ × List ℕ)). IsTxns j.log.head.super.base w now)
+        (sym (pieces-joined j.log.head.read (as_stream (j.log.head.super.generation + 1) stood) ∙ ap (λ (w : List (ℕ × List ℕ)). stream_pieces j.log.head.read ++ w) (pieces-closed (j.log.head.super.generation + 1) stood)))
         stopped.2;
     stands = stands-now;
   }
 
   -- the settled commits stand there
-  marks-stand : j.marks ≤ stopped.0
+  marks-stand : j.commits.marks ≤ stopped.0
   marks-stand =
-      let few : length (texts (take j.settled j.blocks)) ≤ length (texts stood) = texts-fewer j.blocks j.settled s.count s.least in
-      let short : length (commits_bytes last (take j.marks j.records)) ≤ length (concat (map text_of stood)) =
-      omega (arith, few, h.marked.whole, ap length (texts-are stood), ap (λ (n : ℕ). length (commits_bytes n (take j.marks j.records))) h.reading.base_is) in
-      stopped.1.whole j.marks (omega (arith, h.marked.few, h.log.one_each)) short
+      let few : length (texts (take j.log.tail.settled j.log.tail.blocks)) ≤ length (texts stood) = texts-fewer j.log.tail.blocks j.log.tail.settled s.count s.least in
+      let short : length (commits_bytes last (take j.commits.marks j.commits.records)) ≤ length (concat (map text_of stood)) =
+      omega (arith, few, h.marked.whole, ap length (texts-are stood), ap (λ (n : ℕ). length (commits_bytes n (take j.commits.marks j.commits.records))) h.reading.base_is) in
+      stopped.1.whole j.commits.marks (omega (arith, h.marked.few, h.replays.one_each)) short
 
-  settled-stand : (i : ℕ) (entry : Entry) → slice_get j.history i ≡ Some entry → 1 ≤ entry.settled → entry.number ≤ kept (next_generation j.super) now
+  settled-stand : (i : ℕ) (entry : Entry) → slice_get j.commits.history i ≡ Some entry → 1 ≤ entry.settled → entry.number ≤ kept (next_generation j.log.head.super) now
   settled-stand i entry got some =
-      let number : entry.number ≡ j.base + i + 1 = h.legal.numbered i entry got in
-      let early : i < j.marks = elim (cases_lt i j.marks) [ inl lt ↦ lt | inr late ↦ absurd (omega (arith, some, h.marked.first.after i entry got late)) ] in
+      let number : entry.number ≡ j.opening.base + i + 1 = h.legal.numbered i entry got in
+      let early : i < j.commits.marks = elim (cases_lt i j.commits.marks) [ inl lt ↦ lt | inr late ↦ absurd (omega (arith, some, h.marked.first.after i entry got late)) ] in
       omega (arith, number, kept-now, marks-stand)
 
-  pub prefix-at : (m : ℕ) → IsPrefix j.size (HasAmpleRoom j.super j.txns) j.tree j.base j.history m image
+  pub prefix-at : (m : ℕ) → IsPrefix j.log.size (HasAmpleRoom j.log.head.super j.opening.txns) j.opening.tree j.opening.base j.commits.history m image
   prefix-at m = record {
-    super = next_generation j.super;
+    super = next_generation j.log.head.super;
     txns = now;
     least = omega (arith, kept-now);
-    most = omega (arith, kept-now, stopped.1.most, h.log.one_each);
+    most = omega (arith, kept-now, stopped.1.most, h.replays.one_each);
     settled = λ i entry got some by. settled-stand i entry got some;
     image_is = image-now;
-    room = λ ample. room-left j.super j.txns now (length j.history) stopped.0 j.records lists-now
-        (omega (arith, kept-now, h.reading.base_is, stopped.1.most, h.log.one_each)) h.few.few h.few.ids h.few.stores ample;
+    room = λ ample. room-left j.log.head.super j.opening.txns now (length j.commits.history) stopped.0 j.commits.records lists-now
+        (omega (arith, kept-now, h.reading.base_is, stopped.1.most, h.replays.one_each)) h.few.few h.few.ids h.few.stores ample;
   }
 
   -- where all is settled, the image has all of the history
-  pub whole-at : j.settled ≡ length j.blocks → j.text ≡ [] → IsWhole j.size j.tree j.base j.history image
+  pub whole-at : j.log.tail.settled ≡ length j.log.tail.blocks → j.log.tail.text ≡ [] → HasWholeHistory j.log.size j.opening.tree j.opening.base j.commits.history image
   whole-at all none =
-      let count : s.count ≡ length j.blocks = omega (arith, s.least, s.most, all) in
-      let past : drop s.count j.blocks ≡ [] = ap (λ (n : ℕ). drop n j.blocks) count ∙ drop-length j.blocks in
-      let ends : rest ≡ [] = ap (λ (qs : List Queued). texts qs ++ j.text) past ∙ none in
-      let every : kept (next_generation j.super) now ≡ j.base + length j.history = omega (arith, kept-now, stopped.3 ends, h.log.one_each) in
+      let count : s.count ≡ length j.log.tail.blocks = omega (arith, s.least, s.most, all) in
+      let past : drop s.count j.log.tail.blocks ≡ [] = ap (λ (n : ℕ). drop n j.log.tail.blocks) count ∙ drop-length j.log.tail.blocks in
+      let ends : rest ≡ [] = ap (λ (qs : List Queued). texts qs ++ j.log.tail.text) past ∙ none in
+      let every : kept (next_generation j.log.head.super) now ≡ j.opening.base + length j.commits.history = omega (arith, kept-now, stopped.3 ends, h.replays.one_each) in
       record {
-        super = next_generation j.super;
+        super = next_generation j.log.head.super;
         txns = now;
         kept_is = every;
-        image_is = subst (λ (n : ℕ). IsImage j.size image (next_generation j.super) now (bare (tree_at j.tree j.history n))) every image-now;
+        image_is = subst (λ (n : ℕ). IsImage j.log.size image (next_generation j.log.head.super) now (bare (tree_at j.opening.tree j.commits.history n))) every image-now;
       }

@@ -1,4 +1,4 @@
--- A log of commits with one commit more.
+-- What the items of commits make of an image, with one commit more.
 use Rattle.std.proofs.Common.{◌≡◌, ◌≢◌, ◌⊎◌, inl, inr, ℕ, ◌+◌, ◌≤◌, List, [], ◌∷◌, ◌++◌, refl, sym, ap, subst, ◌∙◌, length, length-append, take, append_assoc, arith}
 use Rattle.std.proofs.Math.Seq.{take-length}
 use Rattle.std.proofs.lemmas.List.{append-nil, map-append, take-append-le, take_all}
@@ -13,33 +13,33 @@ use Rattle.fx_history.specs.History.{Legal, settle, tree_after, tree_at}
 use Rattle.fx_history.proofs.Histories.{tree_at_before, tree_next}
 use Rattle.fx_history.proofs.Settling.{settle_length, tree_at_settle}
 use Rattle.fx_image.specs.Standing.{StandsFor, Transactions, items_after, lists_of}
-use Rattle.fx_image.specs.Log.{IsLog}
+use Rattle.fx_image.specs.Replay.{Replays}
 
 -- no commit
-pub log_none : (tree : Tree) (base : ℕ) (txns : Transactions) → StandsFor (items_after txns) tree → tree ≡ bare tree → IsLog tree base txns [] []
-log_none tree base txns s is_bare = record {
+pub replay_none : (tree : Tree) (base : ℕ) (txns : Transactions) → StandsFor (items_after txns) tree → tree ≡ bare tree → Replays tree base txns [] []
+replay_none tree base txns s is_bare = record {
   one_each = refl;
   stands = λ k le. subst (λ (lists : List (List PlainItem)). StandsFor (after_all lists) (bare tree)) (sym (ap (λ (lists : List (List PlainItem)). lists_of txns ++ lists) (take_all k [] (omega arith)) ∙ append-nil (lists_of txns))) (subst (StandsFor (items_after txns)) is_bare s);
 }
 
 -- what stands now
-pub log_now : (tree : Tree) (base : ℕ) (txns : Transactions) (history : List Entry) (records : List (List PlainItem)) → IsLog tree base txns history records
+pub replay_now : (tree : Tree) (base : ℕ) (txns : Transactions) (history : List Entry) (records : List (List PlainItem)) → Replays tree base txns history records
     → StandsFor (after_all (lists_of txns ++ records)) (bare (tree_at tree history (base + length history)))
-log_now tree base txns history records log =
+replay_now tree base txns history records log =
     subst (λ (n : ℕ). StandsFor (after_all (lists_of txns ++ records)) (bare (tree_at tree history (base + n)))) log.one_each
     (subst (λ (lists : List (List PlainItem)). StandsFor (after_all (lists_of txns ++ lists)) (bare (tree_at tree history (base + length records)))) (take-length records)
     (log.stands (length records) (omega arith)))
 
 -- what transactions that keep the first k commits stand for
-pub log_prefix : (tree : Tree) (base : ℕ) (txns more : Transactions) (history : List Entry) (records : List (List PlainItem)) (k : ℕ) → IsLog tree base txns history records
+pub replay_prefix : (tree : Tree) (base : ℕ) (txns more : Transactions) (history : List Entry) (records : List (List PlainItem)) (k : ℕ) → Replays tree base txns history records
     → k ≤ length records → lists_of more ≡ take k records → StandsFor (items_after (txns ++ more)) (bare (tree_at tree history (base + k)))
-log_prefix tree base txns more history records k log le same =
+replay_prefix tree base txns more history records k log le same =
     subst (λ (lists : List (List PlainItem)). StandsFor (after_all lists) (bare (tree_at tree history (base + k))))
     (sym (map-append (λ (txn : ℕ × List PlainItem). txn.1) txns more ∙ ap (λ (lists : List (List PlainItem)). lists_of txns ++ lists) same)) (log.stands k le)
 
 -- one commit more
 module _ (tree : Tree) (base : ℕ) (txns : Transactions) (history : List Entry) (records : List (List PlainItem)) (e : Entry) (items : List PlainItem)
-    (log : IsLog tree base txns history records) (legal : Legal tree base history) (number : e.number ≡ base + length history + 1)
+    (log : Replays tree base txns history records) (legal : Legal tree base history) (number : e.number ≡ base + length history + 1)
     (s : StandsFor (after (after_all (lists_of txns ++ records)) items) (bare (tree_after (tree_at tree history (base + length history)) e))) where
   abbrev StandsAt : ℕ → Type 0
   StandsAt k = StandsFor (after_all (lists_of txns ++ take k (records ++ items ∷ []))) (bare (tree_at tree (history ++ e ∷ []) (base + k)))
@@ -65,20 +65,20 @@ module _ (tree : Tree) (base : ℕ) (txns : Transactions) (history : List Entry)
   stands_by k le (inl last) = subst StandsAt (sym last) stands_last
   stands_by k le (inr other) = stands_before k (omega (arith, length-append records (items ∷ [])))
 
-  pub log_more : IsLog tree base txns (history ++ e ∷ []) (records ++ items ∷ [])
-  log_more = record {
+  pub replay_more : Replays tree base txns (history ++ e ∷ []) (records ++ items ∷ [])
+  replay_more = record {
     one_each = omega (arith, length-append history (e ∷ []), length-append records (items ∷ []), log.one_each);
     stands = λ k le. stands_by k le (same_number k (length (records ++ items ∷ [])));
   }
 
 -- another history with as many entries and the same trees
-pub log_settled : (tree : Tree) (base : ℕ) (txns : Transactions) (history other : List Entry) (records : List (List PlainItem)) → IsLog tree base txns history records
-    → length other ≡ length history → ((n : ℕ) → tree_at tree other n ≡ tree_at tree history n) → IsLog tree base txns other records
-log_settled tree base txns history other records log long same = record {
+pub replay_settled : (tree : Tree) (base : ℕ) (txns : Transactions) (history other : List Entry) (records : List (List PlainItem)) → Replays tree base txns history records
+    → length other ≡ length history → ((n : ℕ) → tree_at tree other n ≡ tree_at tree history n) → Replays tree base txns other records
+replay_settled tree base txns history other records log long same = record {
   one_each = log.one_each ∙ sym long;
   stands = λ k le. subst (λ (t : Tree). StandsFor (after_all (lists_of txns ++ take k records)) (bare t)) (sym (same (base + k))) (log.stands k le);
 }
 
 -- as where entries are settled
-pub log_settle : (tree : Tree) (base : ℕ) (txns : Transactions) (history : List Entry) (records : List (List PlainItem)) (calls : ℕ) → IsLog tree base txns history records → IsLog tree base txns (settle calls history) records
-log_settle tree base txns history records calls log = log_settled tree base txns history (settle calls history) records log (settle_length calls history) (tree_at_settle tree calls history)
+pub replay_settle : (tree : Tree) (base : ℕ) (txns : Transactions) (history : List Entry) (records : List (List PlainItem)) (calls : ℕ) → Replays tree base txns history records → Replays tree base txns (settle calls history) records
+replay_settle tree base txns history records calls log = replay_settled tree base txns history (settle calls history) records log (settle_length calls history) (tree_at_settle tree calls history)

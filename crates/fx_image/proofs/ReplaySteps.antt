@@ -30,8 +30,8 @@ use Rattle.fx_namespace.proofs.Trees.{is_tree}
 use Rattle.fx_history.specs.declared.entry.Entry.{Entry}
 use Rattle.fx_history.specs.History.{Legal, tree_after, tree_at}
 use Rattle.fx_image.specs.Standing.{StandsFor, Transactions, lists_of}
-use Rattle.fx_image.specs.Log.{AreItemsOf, IsLog, OfDirectory, OfFile, OfWrite}
-use Rattle.fx_image.proofs.Replay.{log_more, log_now}
+use Rattle.fx_image.specs.Replay.{AreItemsOf, Replays, OfDirectory, OfFile, OfWrite}
+use Rattle.fx_image.proofs.Replay.{replay_more, replay_now}
 
 -- ---- a tree whose bare tree is one is a tree
 
@@ -210,10 +210,10 @@ after_one t e step answer one done =
     ∙ ap (λ (r : Result Answer Refusal). let all : Result Tree (ℕ × Refusal) = go_on 1 r (Ok (do_step t step).1) in result_unwrap_or all t) done
 
 module _ (tree : Tree) (base : ℕ) (txns : Transactions) (history : List Entry) (records : List (List PlainItem)) (e : Entry) (step : Step) (items : List PlainItem) (id store : ℕ) (answer : Answer)
-    (log : IsLog tree base txns history records) (legal : Legal tree base history) (number : e.number ≡ base + length history + 1) (one : e.steps ≡ step ∷ [])
+    (log : Replays tree base txns history records) (legal : Legal tree base history) (number : e.number ≡ base + length history + 1) (one : e.steps ≡ step ∷ [])
     (done : (do_step (tree_at tree history (base + length history)) step).0 ≡ Ok answer)
     (b : IsBelow (after_all (lists_of txns ++ records)) id store) (are : AreItemsOf (after_all (lists_of txns ++ records)) id store step items) where
-  pub log_step : IsLog tree base txns (history ++ e ∷ []) (records ++ items ∷ [])
-  log_step = log_more tree base txns history records e items log legal number
+  pub replay_step : Replays tree base txns (history ++ e ∷ []) (records ++ items ∷ [])
+  replay_step = replay_more tree base txns history records e items log legal number
       (subst (λ (t : Tree). StandsFor (after (after_all (lists_of txns ++ records)) items) (bare t)) (sym (after_one (tree_at tree history (base + length history)) e step answer one done))
-      (step_stands_for (after_all (lists_of txns ++ records)) (tree_at tree history (base + length history)) step items id store answer (log_now tree base txns history records log) b done are))
+      (step_stands_for (after_all (lists_of txns ++ records)) (tree_at tree history (base + length history)) step items id store answer (replay_now tree base txns history records log) b done are))

@@ -1,5 +1,5 @@
 pub mod Standing
-pub mod Log
+pub mod Replay
 pub mod Prefix
 pub mod Journal
 pub mod Mounted

@@ -10,15 +10,15 @@ use Rattle.fx_jblock.specs.declared.Start.{Start}
 use Rattle.fx_journal.specs.declared.stream.StreamBlock.{StreamBlock}
 use Rattle.fx_journal.specs.Stream.{IsStream}
 use Rattle.fx_record.specs.Txns.{IsTxns}
-use Rattle.fx_log.specs.Chosen.{Chooses, start_of, layers_of}
+use Rattle.fx_log.specs.Chosen.{ChoosesSuper, start_of, layers_of}
 
 -- transactions: numbers and their items
 abbrev pub Transactions : Type 0
 Transactions = List (ℕ × List PlainItem)
 
 -- the blocks of a stream as their epochs and record bytes
-abbrev pub pieces_of : List StreamBlock → List (ℕ × List ℕ)
-pieces_of blocks = map (λ block. (block.epoch, block.records)) blocks
+abbrev pub stream_pieces : List StreamBlock → List (ℕ × List ℕ)
+stream_pieces blocks = map (λ block. (block.epoch, block.records)) blocks
 
 -- the lists of items, the oldest first, and what stands after all of them
 abbrev pub lists_of : Transactions → List (List PlainItem)
@@ -39,13 +39,13 @@ kept f txns = f.base + length txns
 -- The image of a disk of so many blocks has this superblock chosen and these transactions in its journal,
 -- and stands for this tree.
 pub record IsImage (size : ℕ) (image : List (List ℕ)) (f : Fields) (txns : Transactions) (tree : Tree) : Type 0 where
-  pub chosen : Chooses f image
+  pub chosen : ChoosesSuper f image
   pub blocks : f.blocks ≡ size
   pub layers : layers_of f ≡ []
   pub stream : List StreamBlock
   pub next : Start
   pub stream_is : IsStream image f.ring f.generation (start_of f) stream next
-  pub txns_are : IsTxns f.base (pieces_of stream) txns
+  pub txns_are : IsTxns f.base (stream_pieces stream) txns
   pub stands : StandsFor (items_after txns) tree
 
 -- The numbers are so far below their bounds: those that count, and the ids and stores.
@@ -57,8 +57,8 @@ pub record HasMargin (counts ids : ℕ) (f : Fields) (txns : Transactions) : Typ
   pub stores_left : next_store_after f.next_store (lists_of txns) + ids ≤ 2 ^ 31
 
 -- They leave room for a session.
-abbrev pub HasRoom : Fields → Transactions → Type 0
-HasRoom f txns = HasMargin (2 ^ 40) (2 ^ 23) f txns
+abbrev pub HasSessionRoom : Fields → Transactions → Type 0
+HasSessionRoom f txns = HasMargin (2 ^ 40) (2 ^ 23) f txns
 
 -- They leave room for a session, and for another one on what a stop of it leaves.
 abbrev pub HasAmpleRoom : Fields → Transactions → Type 0

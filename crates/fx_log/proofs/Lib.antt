@@ -8,3 +8,6 @@ pub mod RingBegan
 pub mod RingClosed
 pub mod StreamNext
 pub mod StreamLeft
+pub mod LogCalls
+pub mod LogRaised
+pub mod LogRing

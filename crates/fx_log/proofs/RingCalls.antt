@@ -13,7 +13,7 @@ use Rattle.fx_super.specs.Super.{Fields}
 use Rattle.fx_jblock.specs.declared.Start.{Start}
 use Rattle.fx_journal.specs.declared.stream.StreamBlock.{StreamBlock}
 use Rattle.fx_journal.specs.Ring.{Queued}
-use Rattle.fx_log.specs.Ring.{AreClosed, IsTried, KeepsRing, place_in, bytes_in}
+use Rattle.fx_log.specs.Ring.{AreClosed, IsTried, RingHolds, place_in, bytes_in}
 use Rattle.fx_disk.proofs.Flushed.{flushed-bytes, flushed-fixed}
 use Rattle.fx_disk.proofs.Began.{cell_after-now}
 use Rattle.fx_log.proofs.RingPlaces.{apart}
@@ -70,7 +70,7 @@ good-same : (r s : DiskRecord) (at : ℕ) (bytes : List ℕ) → cell_now s at �
 good-same r s at bytes same h = record { good = ap (λ (c : Cell). c.failed) same ∙ h.good; last = ap (λ (c : Cell). c.bytes) same ∙ h.last }
 
 -- Nothing was closed yet, and no block of the ring was written.
-pub ring-untouched : (r : DiskRecord) (from ring epoch : ℕ) → from ≤ length r.calls → ((b : ℕ) → 2 ≤ b → b < ring + 2 → cell_now r b ≡ cell_after r from b) → KeepsRing r from ring epoch [] 0 0
+pub ring-untouched : (r : DiskRecord) (from ring epoch : ℕ) → from ≤ length r.calls → ((b : ℕ) → 2 ≤ b → b < ring + 2 → cell_now r b ≡ cell_after r from b) → RingHolds r from ring epoch [] 0 0
 ring-untouched r from ring epoch since same = record {
   since = since;
   fewer = omega arith;
@@ -81,10 +81,10 @@ ring-untouched r from ring epoch since same = record {
   fixed = λ i q e lt. absurd (cc);
 }
 
-pub ring-begun : (r : DiskRecord) (ring epoch : ℕ) → KeepsRing r (length r.calls) ring epoch [] 0 0
+pub ring-begun : (r : DiskRecord) (ring epoch : ℕ) → RingHolds r (length r.calls) ring epoch [] 0 0
 ring-begun r ring epoch = ring-untouched r (length r.calls) ring epoch (omega arith) (λ b two lt. sym (cell_after-now r b))
 
-module _ (r : DiskRecord) (call : Call) (contents : List (List ℕ)) (from ring epoch : ℕ) (blocks : List Queued) (written settled : ℕ) (h : KeepsRing r from ring epoch blocks written settled) where
+module _ (r : DiskRecord) (call : Call) (contents : List (List ℕ)) (from ring epoch : ℕ) (blocks : List Queued) (written settled : ℕ) (h : RingHolds r from ring epoch blocks written settled) where
   before-same : (b : ℕ) → cell_after (with_call r call contents) from b ≡ cell_after r from b
   before-same b = cell_after-with_call r call contents from b h.since
 
@@ -95,7 +95,7 @@ module _ (r : DiskRecord) (call : Call) (contents : List (List ℕ)) (from ring 
   tried-same b bytes t = subst (λ (c : Cell). IsTried c (cell_now (with_call r call contents) b) bytes) (sym (before-same b)) t
 
   -- A call that changes no block of the ring.
-  pub ring-same : 1 ≤ ring → ((b : ℕ) → 2 ≤ b → b < ring + 2 → cell_now (with_call r call contents) b ≡ cell_now r b) → KeepsRing (with_call r call contents) from ring epoch blocks written settled
+  pub ring-same : 1 ≤ ring → ((b : ℕ) → 2 ≤ b → b < ring + 2 → cell_now (with_call r call contents) b ≡ cell_now r b) → RingHolds (with_call r call contents) from ring epoch blocks written settled
   ring-same filled same =
       let still : (q : Queued) → cell_now (with_call r call contents) (place_in ring q) ≡ cell_now r (place_in ring q) = λ q. same (place_in ring q) (omega arith) (omega (arith, filled)) in
       record {
@@ -110,14 +110,14 @@ module _ (r : DiskRecord) (call : Call) (contents : List (List ℕ)) (from ring 
       }
 
 -- A write of another block, as a superblock.
-pub ring-elsewhere : (r : DiskRecord) (from ring epoch : ℕ) (blocks : List Queued) (written settled : ℕ) → KeepsRing r from ring epoch blocks written settled → 1 ≤ ring
-    → (at : ℕ) (bytes : List ℕ) (ok : Bool) (held : List ℕ) → (at < 2) ⊎ (ring + 2 ≤ at) → KeepsRing (with_write r at bytes ok held) from ring epoch blocks written settled
+pub ring-elsewhere : (r : DiskRecord) (from ring epoch : ℕ) (blocks : List Queued) (written settled : ℕ) → RingHolds r from ring epoch blocks written settled → 1 ≤ ring
+    → (at : ℕ) (bytes : List ℕ) (ok : Bool) (held : List ℕ) → (at < 2) ⊎ (ring + 2 ≤ at) → RingHolds (with_write r at bytes ok held) from ring epoch blocks written settled
 ring-elsewhere r from ring epoch blocks written settled h filled at bytes ok held away = ring-same r (Write at bytes ok) (set r.contents at held) from ring epoch blocks written settled h filled
     (λ b two lt. other-block r b at bytes ok (set r.contents at held) (λ e. ⊎_elim (λ low. absurd (omega (arith, e))) (λ high. absurd (omega (arith, e))) away))
 
 -- A write of a closed block.
 module _ (r : DiskRecord) (from : ℕ) (f : Fields) (read : List StreamBlock) (place : Start) (blocks : List Queued) (chain : ℕ) (closed : AreClosed f read place blocks chain)
-    (written settled : ℕ) (h : KeepsRing r from f.ring (f.generation + 1) blocks written settled)
+    (written settled : ℕ) (h : RingHolds r from f.ring (f.generation + 1) blocks written settled)
     (i : ℕ) (q : Queued) (here : slice_get blocks i ≡ Some q) (ok : Bool) (held : List ℕ) where
   abbrev epoch : ℕ
   epoch = f.generation + 1
@@ -147,7 +147,7 @@ module _ (r : DiskRecord) (from : ℕ) (f : Fields) (read : List StreamBlock) (p
   same-block k p there e = same_Some q p (sym here ∙ ap (λ (n : ℕ). slice_get blocks n) e ∙ there)
 
   -- It is none of those that were written by good writes.
-  pub ring-tries : written ≤ i → KeepsRing s from f.ring epoch blocks written settled
+  pub ring-tries : written ≤ i → RingHolds s from f.ring epoch blocks written settled
   ring-tries le = record {
     since = still-since r call contents from f.ring epoch blocks written settled h;
     fewer = h.fewer;
@@ -168,9 +168,9 @@ module _ (r : DiskRecord) (from : ℕ) (f : Fields) (read : List StreamBlock) (p
       record { good = ap (λ (c : Cell). c.failed) c ∙ ap not good; last = ap (λ (c : Cell). c.bytes) c }
 
   -- It is the first one that was not, and this write is good.
-  pub ring-writes : i ≡ written → ok ≡ true → KeepsRing s from f.ring epoch blocks (written + 1) settled
+  pub ring-writes : i ≡ written → ok ≡ true → RingHolds s from f.ring epoch blocks (written + 1) settled
   ring-writes first good =
-      let tries : KeepsRing s from f.ring epoch blocks written settled = ring-tries (omega arith) in
+      let tries : RingHolds s from f.ring epoch blocks written settled = ring-tries (omega arith) in
       record {
         since = tries.since;
         fewer = omega (arith, h.fewer);
@@ -185,8 +185,8 @@ module _ (r : DiskRecord) (from : ℕ) (f : Fields) (read : List StreamBlock) (p
       }
 
 -- A flush.
-module _ (r : DiskRecord) (from ring epoch : ℕ) (blocks : List Queued) (written settled : ℕ) (h : KeepsRing r from ring epoch blocks written settled) (settles : WasSettled from r) (room : ring + 2 ≤ length r.entry) where
-  pub ring-flush : (ok : Bool) → KeepsRing (with_flush r ok) from ring epoch blocks written settled
+module _ (r : DiskRecord) (from ring epoch : ℕ) (blocks : List Queued) (written settled : ℕ) (h : RingHolds r from ring epoch blocks written settled) (settles : WasSettled from r) (room : ring + 2 ≤ length r.entry) where
+  pub ring-flush : (ok : Bool) → RingHolds (with_flush r ok) from ring epoch blocks written settled
   ring-flush ok = record {
     since = still-since r (Flush ok) r.contents from ring epoch blocks written settled h;
     fewer = h.fewer;
@@ -208,9 +208,9 @@ module _ (r : DiskRecord) (from ring epoch : ℕ) (blocks : List Queued) (writte
   }
 
   -- A good one settles all that were written.
-  pub ring-settles : KeepsRing (with_flush r true) from ring epoch blocks written written
+  pub ring-settles : RingHolds (with_flush r true) from ring epoch blocks written written
   ring-settles =
-      let kept : KeepsRing (with_flush r true) from ring epoch blocks written settled = ring-flush true in
+      let kept : RingHolds (with_flush r true) from ring epoch blocks written settled = ring-flush true in
       record {
         since = kept.since;
         fewer = omega arith;

@@ -13,7 +13,7 @@ use Rattle.fx_journal.specs.declared.stream.StreamBlock.{StreamBlock}
 use Rattle.fx_journal.specs.Ring.{RingState, Queued, IsLinked, AreHeld, HoldsQueue, first_chain, first_place, chain_after, number}
 use Rattle.fx_journal.proofs.Runs.{run_next}
 use Rattle.fx_log.specs.Chosen.{start_of}
-use Rattle.fx_log.specs.Ring.{BeganWith, AreClosed, HasRecords, IsTried, IsElsewhere, KeepsRing, place_in, bytes_in}
+use Rattle.fx_log.specs.Ring.{BeganWith, AreClosed, HasRecords, IsTried, IsElsewhere, RingHolds, place_in, bytes_in}
 use Rattle.fx_log.proofs.RingPlaces.{apart, get-more, get-first}
 use Rattle.fx_log.proofs.RingCalls.{untried}
 
@@ -145,7 +145,7 @@ closed-front f read place blocks more chain closed = record {
 
 -- The ring once further blocks are closed, of which none is written.
 module _ (r : DiskRecord) (from : ℕ) (f : Fields) (image : List (List ℕ)) (read : List StreamBlock) (place : Start) (began : BeganWith r from f image read place)
-    (blocks more : List Queued) (chain : ℕ) (closed : AreClosed f read place (blocks ++ more) chain) (written settled : ℕ) (h : KeepsRing r from f.ring (f.generation + 1) blocks written settled) where
+    (blocks more : List Queued) (chain : ℕ) (closed : AreClosed f read place (blocks ++ more) chain) (written settled : ℕ) (h : RingHolds r from f.ring (f.generation + 1) blocks written settled) where
   on-disk : (q : Queued) → place_in f.ring q < length r.entry
   on-disk q = let rules : KeepsRules f = rules-begun r from f image read place began in omega (arith, rules.ring_least, rules.blocks_least, began.blocks)
 
@@ -165,7 +165,7 @@ module _ (r : DiskRecord) (from : ℕ) (f : Fields) (image : List (List ℕ)) (r
       let fixed : IsFixed (cell_after r from b) = fixed-after r b (take from r.calls) (began.begins.settled b (on-disk q)) in
       subst (λ (c : Cell). IsTried (cell_after r from b) c (bytes_in (f.generation + 1) q)) (sym still) (untried (cell_after r from b) (bytes_in (f.generation + 1) q) fixed)
 
-  pub ring-closes : KeepsRing r from f.ring (f.generation + 1) (blocks ++ more) written settled
+  pub ring-closes : RingHolds r from f.ring (f.generation + 1) (blocks ++ more) written settled
   ring-closes = record {
     since = h.since;
     fewer = h.fewer;

@@ -13,9 +13,9 @@ use Rattle.fx_journal.specs.declared.stream.StreamBlock.{StreamBlock}
 use Rattle.fx_journal.specs.Stream.{IsRun, IsStream, StandsAs, StandsAt, bytes_for, place_of, place_after}
 use Rattle.fx_journal.specs.Ring.{Queued}
 use Rattle.fx_journal.proofs.Runs.{run_joined, run_more, run_next, same_run, same_stream, ended_run}
-use Rattle.fx_log.specs.Chosen.{Chooses, next_generation, start_of}
+use Rattle.fx_log.specs.Chosen.{ChoosesSuper, next_generation, start_of}
 use Rattle.fx_log.specs.Chance.{IsTrueBlock, NotByChance}
-use Rattle.fx_log.specs.Ring.{BeganWith, AreClosed, IsTried, IsElsewhere, KeepsRing, KeepsStream, place_in, bytes_in, in_stream, as_stream}
+use Rattle.fx_log.specs.Ring.{BeganWith, AreClosed, IsTried, IsElsewhere, RingHolds, KeepsStream, place_in, bytes_in, in_stream, as_stream}
 use Rattle.fx_log.proofs.SuperChoice.{two-is}
 use Rattle.fx_log.proofs.RingClosed.{rules-begun, place-begun}
 use Rattle.fx_log.proofs.StreamNext.{Leads, leads, run-raised, stands-lower}
@@ -46,10 +46,10 @@ module _ (r : DiskRecord) (from : ℕ) (f : Fields) (first : List (List ℕ)) (r
   stream-still same = same_stream first image f.ring f.generation (start_of f) place read (omega (arith, rules.ring_least))
       (λ b two lt. (let within : b < length r.entry = omega (arith, rules.blocks_least, began.blocks) in still-bytes b within (same b two lt))) began.stream
 
-  pub stream-unclosed : (epoch written settled : ℕ) → KeepsRing r from f.ring epoch [] written settled → IsStream image f.ring f.generation (start_of f) read place
+  pub stream-unclosed : (epoch written settled : ℕ) → RingHolds r from f.ring epoch [] written settled → IsStream image f.ring f.generation (start_of f) read place
   stream-unclosed epoch written settled h = stream-still (λ b two lt. h.others b two lt (λ i q e. absurd (cc)))
 
-  module _ (blocks : List Queued) (chain : ℕ) (closed : AreClosed f read place blocks chain) (written settled : ℕ) (h : KeepsRing r from f.ring (f.generation + 1) blocks written settled) where
+  module _ (blocks : List Queued) (chain : ℕ) (closed : AreClosed f read place blocks chain) (written settled : ℕ) (h : RingHolds r from f.ring (f.generation + 1) blocks written settled) where
     abbrev epoch : ℕ
     epoch = f.generation + 1
 
@@ -149,7 +149,7 @@ module _ (r : DiskRecord) (from : ℕ) (f : Fields) (first : List (List ℕ)) (r
         (λ some. omega (arith, some, stands.continues.least, old.0))
         lead.floor
 
-    module _ (chosen : Chooses (next_generation f) image) (chance : NotByChance (cell_after r from) (cell_now r) f.generation image) where
+    module _ (chosen : ChoosesSuper (next_generation f) image) (chance : NotByChance (cell_after r from) (cell_now r) f.generation image) where
       ended : (length whole ≡ f.ring) ⊎ ((block : StreamBlock) → StandsAt image f.ring epoch lead.next block → ⊥)
       ended = ⊎_elim
           (λ lt. inr (λ block stands. no-longer block lt stands

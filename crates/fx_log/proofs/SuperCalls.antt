@@ -13,7 +13,7 @@ use Rattle.fx_super.specs.Chosen.{IsChosen, block_of, block_number, other}
 use Rattle.fx_super.specs.declared.choice.Which.{Which}
 use Rattle.fx_super.specs.declared.choice.Which.TheVariants.{A, B}
 use Rattle.fx_log.specs.Chance.{HasTrueSupers}
-use Rattle.fx_log.specs.Chosen.{next_generation, Chooses, ChoosesEither}
+use Rattle.fx_log.specs.Chosen.{next_generation, ChoosesSuper, ChoosesEither}
 use Rattle.fx_log.specs.Raising.{LeavesEither, BeginsAt, ChoosesSince, ChoosesNext}
 use Rattle.fx_super.proofs.Chosen.{one_chosen}
 use Rattle.fx_log.proofs.SuperChoice.{chooses_next, chooses_either}
@@ -25,8 +25,8 @@ pub begins-before : (r : DiskRecord) (call : Call) (contents : List (List ℕ)) 
 begins-before r call contents from f le h = record {
   slots = h.slots;
   settled = λ b lt. sym (ap (λ (c : Cell). c.loose) (cell_after-with_call r call contents from b le)) ∙ h.settled b lt;
-  chosen = subst (λ (a : List ℕ). Chooses f (a ∷ (cell_after r from 1).bytes ∷ [])) (ap (λ (c : Cell). c.bytes) (cell_after-with_call r call contents from 0 le))
-      (subst (λ (b : List ℕ). Chooses f ((cell_after (with_call r call contents) from 0).bytes ∷ b ∷ [])) (ap (λ (c : Cell). c.bytes) (cell_after-with_call r call contents from 1 le)) h.chosen);
+  chosen = subst (λ (a : List ℕ). ChoosesSuper f (a ∷ (cell_after r from 1).bytes ∷ [])) (ap (λ (c : Cell). c.bytes) (cell_after-with_call r call contents from 0 le))
+      (subst (λ (b : List ℕ). ChoosesSuper f ((cell_after (with_call r call contents) from 0).bytes ∷ b ∷ [])) (ap (λ (c : Cell). c.bytes) (cell_after-with_call r call contents from 1 le)) h.chosen);
 }
 
 -- and nothing that is there by chance only before it
@@ -62,7 +62,7 @@ module _ (size : ℕ) (r : DiskRecord) (ok : IsRecordOf size (length r.calls) r)
   reads-now b lt = let h : IsFixed (cell_now r b) = fixed-after r b r.calls (fixed-now b lt) in sym (ok.reads b (omega (arith, ok.entry_size)) h.good)
 
   -- an image with the same two slots chooses the same
-  pub same_slots : (image : List (List ℕ)) (a b : List ℕ) → a ≡ get_or image 0 [] → b ≡ get_or image 1 [] → Chooses f (a ∷ b ∷ []) → Chooses f image
+  pub same_slots : (image : List (List ℕ)) (a b : List ℕ) → a ≡ get_or image 0 [] → b ≡ get_or image 1 [] → ChoosesSuper f (a ∷ b ∷ []) → ChoosesSuper f image
   same_slots image a b e k (A, h) = (
     A,
     record {
@@ -81,7 +81,7 @@ module _ (size : ℕ) (r : DiskRecord) (ok : IsRecordOf size (length r.calls) r)
   slot-now : (b : ℕ) → b < 2 → (cell_after r (length r.calls) b).bytes ≡ get_or r.contents b []
   slot-now b lt = ap (λ (c : Cell). c.bytes) (cell_after-now r b) ∙ reads-now b (omega (arith, begins.slots))
 
-  pub chosen-now : Chooses f r.contents
+  pub chosen-now : ChoosesSuper f r.contents
   chosen-now = same_slots r.contents _ _ (slot-now 0 (omega arith)) (slot-now 1 (omega arith)) begins.chosen
 
   -- an image that is left then has the blocks that the disk reads as
@@ -115,7 +115,7 @@ module _ (size : ℕ) (r : DiskRecord) (ok : IsRecordOf size (length r.calls) r)
     (bytes : List ℕ) (next : IsSuper bytes (next_generation f)) where
   -- what began here began with the chosen superblock
   begins-chosen : (g : Fields) → BeginsAt r (length r.calls) g → f ≡ g
-  begins-chosen g begins = let mine : Chooses g r.contents = chosen-now size r ok g begins in (one_chosen r.contents which mine.0 f g is mine.1).1
+  begins-chosen g begins = let mine : ChoosesSuper g r.contents = chosen-now size r ok g begins in (one_chosen r.contents which mine.0 f g is mine.1).1
 
   module _ (good : Bool) (held : List ℕ) (begins : BeginsAt r (length r.calls) f) where
     abbrev s : DiskRecord
@@ -171,5 +171,5 @@ module _ (size : ℕ) (r : DiskRecord) (ok : IsRecordOf size (length r.calls) r)
       let mine : BeginsAt r (length r.calls) f = subst (λ (x : Fields). BeginsAt r (length r.calls) x) (sym same) begins' in
       let c : cell_now (with_flush t true) b ≡ settled_cell (written_cell bytes true (cell_now r b)) = after-write_flush r b bytes (set r.contents b held) (set r.contents b held) in
       let here : get_or image b [] ≡ bytes = left.kept b (slot-lt true held mine (other which)) (ap (λ (c : Cell). c.loose) c) ∙ ap (λ (c : Cell). c.bytes) c in
-      subst (λ (x : Fields). Chooses (next_generation x) image) same
+      subst (λ (x : Fields). ChoosesSuper (next_generation x) image) same
       (chooses_next which f image (block_of r.contents (other which)) bytes (super-left true held mine image (left-before t true image left)) is.goes_before next (sym here))

@@ -11,7 +11,7 @@ use Rattle.fx_super.specs.declared.choice.Which.{Which}
 use Rattle.fx_super.specs.declared.choice.Which.TheVariants.{A, B}
 use Rattle.fx_super.proofs.Chosen.{one_fields, one_chosen}
 use Rattle.fx_log.specs.Chance.{PassesForSuper}
-use Rattle.fx_log.specs.Chosen.{next_generation, Chooses, ChoosesEither, start_of}
+use Rattle.fx_log.specs.Chosen.{next_generation, ChoosesSuper, ChoosesEither, start_of}
 use Rattle.fx_jblock.specs.declared.Start.{Start}
 use Rattle.fx_journal.specs.declared.stream.StreamBlock.{StreamBlock}
 use Rattle.fx_journal.specs.Stream.{IsStream}
@@ -40,7 +40,7 @@ module _ (which : Which) (f : Fields) (image : List (List ℕ)) (before bytes : 
     (goes : (g : Fields) → IsSuper before g → GoesBefore which f.generation g.generation)
     (next : IsSuper bytes (next_generation f)) where
   -- the next generation stands there
-  pub chooses_next : bytes ≡ block_of image (other which) → Chooses (next_generation f) image
+  pub chooses_next : bytes ≡ block_of image (other which) → ChoosesSuper (next_generation f) image
   chooses_next e = (
     other which,
     record {
@@ -53,7 +53,7 @@ module _ (which : Which) (f : Fields) (image : List (List ℕ)) (before bytes : 
   )
 
   -- what was there before, or no superblock
-  stays_chosen : ((g : Fields) → IsSuper (block_of image (other which)) g → before ≡ block_of image (other which)) → Chooses f image
+  stays_chosen : ((g : Fields) → IsSuper (block_of image (other which)) g → before ≡ block_of image (other which)) → ChoosesSuper f image
   stays_chosen old = (
     which,
     record {
@@ -69,10 +69,10 @@ module _ (which : Which) (f : Fields) (image : List (List ℕ)) (before bytes : 
       (same-list bytes (block_of image (other which)))
 
 -- one superblock is chosen, and one stream is its
-pub one_super : (image : List (List ℕ)) (f g : Fields) → Chooses f image → Chooses g image → f ≡ g
+pub one_super : (image : List (List ℕ)) (f g : Fields) → ChoosesSuper f image → ChoosesSuper g image → f ≡ g
 one_super image f g a b = (one_chosen image a.0 b.0 f g a.1 b.1).1
 
-pub rules_chosen : (image : List (List ℕ)) (f : Fields) → Chooses f image → KeepsRules f
+pub rules_chosen : (image : List (List ℕ)) (f : Fields) → ChoosesSuper f image → KeepsRules f
 rules_chosen image f h = h.1.is_super.rules
 
 pub stream_chosen : (image : List (List ℕ)) (f : Fields) (p q : Start) (xs ys : List StreamBlock) → KeepsRules f

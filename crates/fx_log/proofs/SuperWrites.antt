@@ -12,7 +12,7 @@ use Rattle.fx_super.specs.Super.{Fields, IsSuper}
 use Rattle.fx_super.specs.Chosen.{IsChosen, block_of, other}
 use Rattle.fx_super.specs.declared.choice.Which.{Which}
 use Rattle.fx_super.specs.declared.choice.Which.TheVariants.{A, B}
-use Rattle.fx_log.specs.Chosen.{next_generation, Chooses, ChoosesEither}
+use Rattle.fx_log.specs.Chosen.{next_generation, ChoosesSuper, ChoosesEither}
 use Rattle.fx_log.specs.Chance.{HasTrueSupers, IsNotByChance}
 use Rattle.fx_log.specs.Raising.{LeavesEither, ChoosesSince, ChoosesNext}
 use Rattle.fx_log.proofs.SuperCalls.{begins-before}
@@ -28,7 +28,7 @@ pub same_supers : (image others : List (List ℕ)) → get_or image 0 [] ≡ get
 same_supers image others a b A = a
 same_supers image others a b B = b
 
-pub same_chosen : (image others : List (List ℕ)) (f : Fields) → get_or image 0 [] ≡ get_or others 0 [] → get_or image 1 [] ≡ get_or others 1 [] → Chooses f image → Chooses f others
+pub same_chosen : (image others : List (List ℕ)) (f : Fields) → get_or image 0 [] ≡ get_or others 0 [] → get_or image 1 [] ≡ get_or others 1 [] → ChoosesSuper f image → ChoosesSuper f others
 same_chosen image others f a b (which, h) = (which, same_which image others f (same_supers image others a b) which h)
 
 pub same_either : (image others : List (List ℕ)) (f : Fields) → get_or image 0 [] ≡ get_or others 0 [] → get_or image 1 [] ≡ get_or others 1 [] → ChoosesEither f image → ChoosesEither f others

@@ -5,7 +5,7 @@ use Rattle.fx_super.specs.Super.{Fields, IsSuper, IsVersion}
 use Rattle.fx_jblock.specs.declared.Start.{Start}
 use Rattle.fx_journal.specs.declared.stream.StreamBlock.{StreamBlock}
 use Rattle.fx_journal.specs.Stream.{IsRun, StandsAt, bytes_for, place_of}
-use Rattle.fx_log.specs.Chosen.{Chooses, start_of}
+use Rattle.fx_log.specs.Chosen.{ChoosesSuper, start_of}
 
 -- The block passes for a superblock, of this version or of another one.
 abbrev pub PassesForSuper : List ℕ → Type 0
@@ -36,6 +36,6 @@ pub record IsTrueBlock (before now : Cell) (generation : ℕ) (bytes : List ℕ)
 pub record NotByChance (before now : ℕ → Cell) (generation : ℕ) (image : List (List ℕ)) : Type 0 where
   pub supers : HasTrueSupers now image
   pub stream : (f : Fields) (blocks : List StreamBlock) (place : Start) (block : StreamBlock) →
-      Chooses f image → IsRun image f.ring f.generation (start_of f) blocks place → length blocks < f.ring →
+      ChoosesSuper f image → IsRun image f.ring f.generation (start_of f) blocks place → length blocks < f.ring →
       StandsAt image f.ring f.generation place block →
       IsTrueBlock (before (place_of f.ring place.sequence)) (now (place_of f.ring place.sequence)) generation (bytes_for image f.ring place.sequence) block.epoch

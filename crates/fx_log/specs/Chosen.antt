@@ -10,12 +10,12 @@ abbrev pub next_generation : Fields → Fields
 next_generation f = record f { generation = f.generation + 1 }
 
 -- In the image this superblock is chosen.
-abbrev pub Chooses : Fields → List (List ℕ) → Type 0
-Chooses f image = (which : Which) × IsChosen image which f
+abbrev pub ChoosesSuper : Fields → List (List ℕ) → Type 0
+ChoosesSuper f image = (which : Which) × IsChosen image which f
 
 -- Or that of the next generation is.
 abbrev pub ChoosesEither : Fields → List (List ℕ) → Type 0
-ChoosesEither f image = Chooses f image ⊎ Chooses (next_generation f) image
+ChoosesEither f image = ChoosesSuper f image ⊎ ChoosesSuper (next_generation f) image
 
 -- where the superblock says that the stream begins
 abbrev pub start_of : Fields → Start

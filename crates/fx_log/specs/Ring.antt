@@ -9,14 +9,14 @@ use Rattle.fx_jblock.specs.declared.TheConstants.{RECORD_BYTES}
 use Rattle.fx_journal.specs.declared.stream.StreamBlock.{StreamBlock}
 use Rattle.fx_journal.specs.Stream.{IsStream, place_of}
 use Rattle.fx_journal.specs.Ring.{Queued, IsLinked, first_chain}
-use Rattle.fx_log.specs.Chosen.{Chooses, start_of}
+use Rattle.fx_log.specs.Chosen.{ChoosesSuper, start_of}
 use Rattle.fx_disk.specs.Began.{BeganAs}
 
 -- The disk began as an image in which this superblock is chosen, that of a disk of its size. These blocks
 -- are the stream then, and `place` is the one after them.
 pub record BeganWith (r : DiskRecord) (from : ℕ) (f : Fields) (image : List (List ℕ)) (read : List StreamBlock) (place : Start) : Type 0 where
   pub begins : BeganAs r from image
-  pub chosen : Chooses f image
+  pub chosen : ChoosesSuper f image
   pub blocks : f.blocks ≡ length r.entry
   pub stream : IsStream image f.ring f.generation (start_of f) read place
 
@@ -62,7 +62,7 @@ IsElsewhere ring blocks b = (i : ℕ) (q : Queued) → slice_get blocks i ≡ So
 -- Since the first calls no disk block of the ring was written but those of the closed blocks, each of these
 -- with its own bytes alone. The first `written` of them were written by good writes, and the first
 -- `settled` were flushed since.
-pub record KeepsRing (r : DiskRecord) (from ring epoch : ℕ) (blocks : List Queued) (written settled : ℕ) : Type 0 where
+pub record RingHolds (r : DiskRecord) (from ring epoch : ℕ) (blocks : List Queued) (written settled : ℕ) : Type 0 where
   pub since : from ≤ length r.calls
   pub fewer : settled ≤ written
   pub most : written ≤ length blocks

@@ -6,9 +6,9 @@
 
 ghost use Rattle.std.specs.Prelude.{◌≡◌, ◌+◌, ℕ, List, length};
 ghost use Rattle.fx_super.specs.Super.{Fields};
-ghost use Rattle.fx_log.specs.Chosen.{Chooses};
+ghost use Rattle.fx_log.specs.Chosen.{ChoosesSuper};
 
 /// An image has one superblock chosen at most.
 pub fn superblock_law()
-    ensures one { (image : List (List ℕ)) (f g : Fields) → Chooses f image → Chooses g image → f ≡ g }
+    ensures one { (image : List (List ℕ)) (f g : Fields) → ChoosesSuper f image → ChoosesSuper g image → f ≡ g }
 {}

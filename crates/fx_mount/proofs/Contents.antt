@@ -14,7 +14,7 @@ use Rattle.fx_jblock.specs.declared.Start.{Start}
 use Rattle.fx_journal.specs.Stream.{IsSeries, place_after}
 use Rattle.fx_journal.specs.declared.stream.StreamBlock.{StreamBlock}
 use Rattle.fx_record.specs.Txns.{IsTxns, bytes_of}
-use Rattle.fx_image.specs.Standing.{HasRoom, StandsFor, Transactions, items_after, pieces_of}
+use Rattle.fx_image.specs.Standing.{HasSessionRoom, StandsFor, Transactions, items_after, stream_pieces}
 use Rattle.fx_mount.specs.declared.fault.MountFault.{MountFault}
 use Rattle.fx_mount.specs.declared.fault.MountFault.TheVariants as faults
 use Rattle.fx_mount.specs.declared.fault.MountFault.TheVariants.{BadTree, Cramped}
@@ -23,7 +23,7 @@ use Rattle.fx_store.specs.Nodes.{NodeTable}
 use Rattle.fx_store.specs.Session.{KnowsNodes}
 use Rattle.fx_mount.specs.Reading.{IsGathered, IsReadFault}
 
-module _ (f : Fields) (blocks : List StreamBlock) (txns : Transactions) (table : PlainTable) (are : IsTxns f.base (pieces_of blocks) txns) (gathered : IsGathered f txns table) where
+module _ (f : Fields) (blocks : List StreamBlock) (txns : Transactions) (table : PlainTable) (are : IsTxns f.base (stream_pieces blocks) txns) (gathered : IsGathered f txns table) where
   same_items : value_in table.items ≡ items_after txns
   same_items = fun_ext gathered.items
 
@@ -37,7 +37,7 @@ module _ (f : Fields) (blocks : List StreamBlock) (txns : Transactions) (table :
     pub refused_tree : (node : NodeId) → IsLeastWrong (value_in table.items) node → IsRefused size image (BadTree node.store node.id)
     refused_tree node wrong = (f, blocks, txns, super, stream, are, subst (λ (m : ItemMap). IsLeastWrong m node) same_items wrong)
 
-    pub refused_room : (tree : Tree) → StandsFor (items_after txns) tree → (HasRoom f txns → ⊥) → IsRefused size image (Cramped 0)
+    pub refused_room : (tree : Tree) → StandsFor (items_after txns) tree → (HasSessionRoom f txns → ⊥) → IsRefused size image (Cramped 0)
     refused_room tree stands cramped = (
       super.slots,
       refl,
@@ -60,10 +60,10 @@ module _ (f : Fields) (blocks : List StreamBlock) (txns : Transactions) (table :
     )
 
 -- a stream has few record bytes
-pub series_short : (generation : ℕ) (start next : Start) (blocks : List StreamBlock) → IsSeries generation start blocks next → length (bytes_of (pieces_of blocks)) ≤ 4064 * length blocks
+pub series_short : (generation : ℕ) (start next : Start) (blocks : List StreamBlock) → IsSeries generation start blocks next → length (bytes_of (stream_pieces blocks)) ≤ 4064 * length blocks
 series_short generation start next [] h = omega arith
 series_short generation start next (b ∷ bs) h =
-    omega (arith, length-append b.records (bytes_of (pieces_of bs)), h.0.room, series_short generation (place_after start b) next bs h.1)
+    omega (arith, length-append b.records (bytes_of (stream_pieces bs)), h.0.room, series_short generation (place_after start b) next bs h.1)
 
 -- a fault of what was read is a cause
 pub cause_read : (size : ℕ) (told : Option DiskRecord) (before now : ℕ) (fault : MountFault) → fault ≢ faults.Device → IfSome told (λ r. IsReadFault size r.contents fault) → IsMountCause size told before now fault

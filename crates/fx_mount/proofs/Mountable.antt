@@ -7,7 +7,7 @@ use Rattle.fx_super.specs.Super.{Fields, fields_of}
 use Rattle.fx_super.specs.Chosen.{IsChosen}
 use Rattle.fx_journal.specs.Stream.{IsStream}
 use Rattle.fx_record.specs.Txns.{txns_of}
-use Rattle.fx_log.specs.Chosen.{Chooses, start_of}
+use Rattle.fx_log.specs.Chosen.{ChoosesSuper, start_of}
 use Rattle.fx_image.specs.Standing.{Transactions}
 use Rattle.fx_log.proofs.SuperChoice.{one_super, stream_chosen}
 use Rattle.fx_store.specs.Mounted.{Opens}
@@ -37,10 +37,10 @@ module _ (size : ℕ) (told : Option DiskRecord) (found : Found) (c : Contents) 
   mounted_with r here there = (
     f,
     record {
-      slots = omega (arith, is.reading.blocks, is.reading.rules.blocks_least);
+      slots = omega (arith, is.reading.head.blocks, is.reading.head.rules.blocks_least);
       image_is = record {
         chosen = (found.chosen, here);
-        blocks = is.reading.blocks;
+        blocks = is.reading.head.blocks;
         layers = is.reading.layers;
         stream = is.blocks;
         next = c.next;
@@ -64,11 +64,11 @@ module _ (size : ℕ) (told : Option DiskRecord) (found : Found) (c : Contents) 
   )
 
   -- the ring is the superblock's
-  ring_with : (r : DiskRecord) → Chooses f r.contents → IsThere r → HasRing r.contents f.ring (c.closed + 1)
+  ring_with : (r : DiskRecord) → ChoosesSuper f r.contents → IsThere r → HasRing r.contents f.ring (c.closed + 1)
   ring_with r chosen there g blocks chooses stream =
       let same : f ≡ g = one_super r.contents f g chosen chooses in
       let here : HasStream r.contents f blocks = subst (λ (h : Fields). HasStream r.contents h blocks) (sym same) stream in
-      let one = stream_chosen r.contents f c.next here.0 is.blocks blocks is.reading.rules there here.1 in
+      let one = stream_chosen r.contents f c.next here.0 is.blocks blocks is.reading.head.rules there here.1 in
       (ap (λ (h : Fields). h.ring) same, omega (arith, is.closed_is, ap length one.0))
 
   pub has_ring : (ring live : ℕ) → ring ≡ f.ring → live ≡ c.closed + 1 → IfSome told (λ r. HasRing r.contents ring live)

@@ -13,8 +13,8 @@ use Rattle.fx_record.specs.Txns.{IsTxns, IsBadRecord}
 use Rattle.fx_record.proofs.Fronts.{not_both, one_answer}
 use Rattle.fx_super.specs.Super.{Fields}
 use Rattle.fx_super.specs.Chosen.{HasNoChosen}
-use Rattle.fx_log.specs.Chosen.{Chooses, layers_of, start_of}
-use Rattle.fx_image.specs.Standing.{HasRoom, IsImage, Transactions, items_after, kept, pieces_of}
+use Rattle.fx_log.specs.Chosen.{ChoosesSuper, layers_of, start_of}
+use Rattle.fx_image.specs.Standing.{HasSessionRoom, IsImage, Transactions, items_after, kept, stream_pieces}
 use Rattle.fx_image.proofs.OneImage.{images_same, images_super}
 use Rattle.fx_log.proofs.SuperChoice.{one_super, rules_chosen, stream_chosen}
 use Rattle.fx_mount.specs.declared.fault.MountFault.{MountFault}
@@ -27,7 +27,7 @@ module _ (size : ℕ) (image : List (List ℕ)) (f : Fields) (txns : Transaction
   abbrev here : IsImage size image f txns tree
   here = is.image_is
 
-  same_super : (g : Fields) → Chooses g image → f ≡ g
+  same_super : (g : Fields) → ChoosesSuper g image → f ≡ g
   same_super g chooses = one_super image f g here.chosen chooses
 
   has_chosen : HasNoChosen image → ⊥
@@ -42,8 +42,8 @@ module _ (size : ℕ) (image : List (List ℕ)) (f : Fields) (txns : Transaction
         let other : HasStream image f blocks = subst (λ (h : Fields). HasStream image h blocks) (sym same_fields) stream in
         (stream_chosen image f here.next other.0 here.stream blocks (rules_chosen image f here.chosen) here.stream_is other.1).0
 
-    are_txns : IsTxns g.base (pieces_of blocks) txns
-    are_txns = subst (λ (h : Fields). IsTxns h.base (pieces_of blocks) txns) same_fields (subst (λ (bs : List StreamBlock). IsTxns f.base (pieces_of bs) txns) same_stream here.txns_are)
+    are_txns : IsTxns g.base (stream_pieces blocks) txns
+    are_txns = subst (λ (h : Fields). IsTxns h.base (stream_pieces blocks) txns) same_fields (subst (λ (bs : List StreamBlock). IsTxns f.base (stream_pieces bs) txns) same_stream here.txns_are)
 
   pub taken : (fault : MountFault) → IsRefused size image fault → ⊥
   taken faults.NoSuper (inl few) = omega (arith, is.slots, few)
@@ -51,14 +51,14 @@ module _ (size : ℕ) (image : List (List ℕ)) (f : Fields) (txns : Transaction
   taken (faults.Version version) r = has_chosen r.1
   taken (faults.DiskSize blocks) r = r.2.2 (ap (λ (h : Fields). h.blocks) (sym (same_super r.2.0 r.2.1)) ∙ here.blocks)
   taken (faults.BadLayer at) r = cc (sym here.layers ∙ ap layers_of (same_super r.1.0 r.1.1) ∙ r.1.3.1)
-  taken (faults.BadRecord place) r = not_both r.0.base (pieces_of r.1) txns place (are_txns r.0 r.1 r.2 r.3) r.4
+  taken (faults.BadRecord place) r = not_both r.0.base (stream_pieces r.1) txns place (are_txns r.0 r.1 r.2 r.3) r.4
   taken (faults.BadTree store id) r =
-      let same : r.2 ≡ txns = one_answer r.0.base (pieces_of r.1) r.2 txns r.5 (are_txns r.0 r.1 r.3 r.4) in
+      let same : r.2 ≡ txns = one_answer r.0.base (stream_pieces r.1) r.2 txns r.5 (are_txns r.0 r.1 r.3 r.4) in
       nothing_wrong (items_after r.2) (subst (λ (ts : Transactions). Stands (items_after ts)) (sym same) here.stands.stands) (record { store = store; id = id }) r.6.wrong
   taken (faults.Cramped free) r =
       let same_f : f ≡ r.2.0 = images_super size image f r.2.0 txns r.2.1 tree r.2.2 here r.2.3 in
       let same : txns ≡ r.2.1 = (images_same size image f r.2.0 txns r.2.1 tree r.2.2 here r.2.3).0 in
-      r.2.4 (subst (λ (g : Fields). HasRoom g r.2.1) same_f (subst (λ (ts : Transactions). HasRoom f ts) same is.room))
+      r.2.4 (subst (λ (g : Fields). HasSessionRoom g r.2.1) same_f (subst (λ (ts : Transactions). HasSessionRoom f ts) same is.room))
   taken faults.Device r = r
   taken faults.OutOfMemory r = r
 

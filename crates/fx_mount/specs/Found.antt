@@ -13,8 +13,8 @@ use Rattle.fx_jblock.specs.declared.Start.{Start}
 use Rattle.fx_journal.specs.declared.stream.StreamBlock.{StreamBlock}
 use Rattle.fx_journal.specs.Stream.{IsStream}
 use Rattle.fx_record.specs.Txns.{IsTxns, IsBadRecord}
-use Rattle.fx_log.specs.Chosen.{Chooses, start_of, layers_of}
-use Rattle.fx_image.specs.Standing.{Transactions, IsImage, HasRoom, items_after, kept, pieces_of}
+use Rattle.fx_log.specs.Chosen.{ChoosesSuper, start_of, layers_of}
+use Rattle.fx_image.specs.Standing.{Transactions, IsImage, HasSessionRoom, items_after, kept, stream_pieces}
 use Rattle.fx_store.specs.declared.opening.BeginFault.{BeginFault}
 use Rattle.fx_store.specs.declared.opening.BeginFault.TheVariants as begin
 use Rattle.fx_mount.specs.declared.fault.MountFault.{MountFault}
@@ -37,7 +37,7 @@ TellsVersion image version = IsVersion (first_slot image) version ⊎ (HasNoVers
 -- In an image of a disk of so many blocks this superblock is chosen, and it names no layer.
 pub record HasSuper (size : ℕ) (image : List (List ℕ)) (f : Fields) : Type 0 where
   pub slots : 2 ≤ size
-  pub chosen : Chooses f image
+  pub chosen : ChoosesSuper f image
   pub blocks : f.blocks ≡ size
   pub layers : layers_of f ≡ []
 
@@ -46,7 +46,7 @@ pub record HasSuper (size : ℕ) (image : List (List ℕ)) (f : Fields) : Type 0
 pub record IsMountable (size : ℕ) (image : List (List ℕ)) (f : Fields) (txns : Transactions) (tree : Tree) : Type 0 where
   pub slots : 2 ≤ size
   pub image_is : IsImage size image f txns tree
-  pub room : HasRoom f txns
+  pub room : HasSessionRoom f txns
 
 -- The superblock's stream is there.
 abbrev pub HasStream : List (List ℕ) → Fields → List StreamBlock → Type 0
@@ -54,7 +54,7 @@ HasStream image f blocks = (next : Start) × IsStream image f.ring f.generation 
 
 -- The chosen superblock's ring has so many blocks, and of it so many are live: those of the stream, and the next.
 abbrev pub HasRing : List (List ℕ) → ℕ → ℕ → Type 0
-HasRing image ring live = (f : Fields) (blocks : List StreamBlock) → Chooses f image → HasStream image f blocks → (ring ≡ f.ring) × (live ≡ length blocks + 1)
+HasRing image ring live = (f : Fields) (blocks : List StreamBlock) → ChoosesSuper f image → HasStream image f blocks → (ring ≡ f.ring) × (live ≡ length blocks + 1)
 
 -- why a disk was not mounted, where no store was begun on it
 abbrev pub fault_of : BeginFault → MountFault
@@ -75,12 +75,12 @@ IsMountedAt size base txns opening r = (f : Fields) × IsMountable size r.conten
 abbrev pub IsRefused : ℕ → List (List ℕ) → MountFault → Type 0
 IsRefused size image NoSuper = (size < 2) ⊎ (HasNoChosen image × HasNoVersion (first_slot image) × HasNoVersion (second_slot image))
 IsRefused size image (Version version) = (2 ≤ size) × HasNoChosen image × TellsVersion image version
-IsRefused size image (DiskSize blocks) = (2 ≤ size) × (blocks ≡ size) × ((f : Fields) × Chooses f image × (f.blocks ≢ size))
-IsRefused size image (BadLayer at) = (2 ≤ size) × ((f : Fields) × Chooses f image × (f.blocks ≡ size) × ((rest : List ℕ) × (layers_of f ≡ at ∷ rest)))
-IsRefused size image (BadRecord place) = (f : Fields) × (blocks : List StreamBlock) × HasSuper size image f × HasStream image f blocks × IsBadRecord f.base (pieces_of blocks) place
+IsRefused size image (DiskSize blocks) = (2 ≤ size) × (blocks ≡ size) × ((f : Fields) × ChoosesSuper f image × (f.blocks ≢ size))
+IsRefused size image (BadLayer at) = (2 ≤ size) × ((f : Fields) × ChoosesSuper f image × (f.blocks ≡ size) × ((rest : List ℕ) × (layers_of f ≡ at ∷ rest)))
+IsRefused size image (BadRecord place) = (f : Fields) × (blocks : List StreamBlock) × HasSuper size image f × HasStream image f blocks × IsBadRecord f.base (stream_pieces blocks) place
 IsRefused size image (BadTree store id) = (f : Fields) × (blocks : List StreamBlock) × (txns : Transactions) × HasSuper size image f × HasStream image f blocks
-    × IsTxns f.base (pieces_of blocks) txns × IsLeastWrong (items_after txns) (record { store = store; id = id })
-IsRefused size image (Cramped free) = (2 ≤ size) × (free ≡ 0) × ((f : Fields) × (txns : Transactions) × (tree : Tree) × IsImage size image f txns tree × (HasRoom f txns → ⊥))
+    × IsTxns f.base (stream_pieces blocks) txns × IsLeastWrong (items_after txns) (record { store = store; id = id })
+IsRefused size image (Cramped free) = (2 ≤ size) × (free ≡ 0) × ((f : Fields) × (txns : Transactions) × (tree : Tree) × IsImage size image f txns tree × (HasSessionRoom f txns → ⊥))
 IsRefused size image Device = ⊥
 IsRefused size image OutOfMemory = ⊥
 

@@ -4,7 +4,7 @@ ghost use Rattle.std.specs.Option.{IfSome};
 ghost use Rattle.fx_base.specs.Causes.{Rose};
 ghost use Rattle.fx_super.specs.Super.{Decoded, KeepsRules, fields_of};
 ghost use Rattle.fx_super.specs.Chosen.{IsChosen};
-ghost use Rattle.fx_log.specs.Chosen.{Chooses, layers_of};
+ghost use Rattle.fx_log.specs.Chosen.{ChoosesSuper, layers_of};
 ghost use Rattle.fx_mount.specs.Found.{AreSlots, HasSuper, IsMountCause, IsRefused, first_slot, second_slot};
 
 use crate::fault::MountFault;
@@ -84,7 +84,7 @@ fn check(sup: &Super, blocks: u32) -> Result<(), MountFault>
     requires { KeepsRules (fields_of sup.now) }
     ensures size { OnOk result (sup.now.blocks ≡ blocks) }
     ensures layers { OnOk result (layers_of (fields_of sup.now) ≡ []) }
-    ensures refused { IfErr result (λ fault. (image : List (List ℕ)) → 2 ≤ blocks → Chooses (fields_of sup.now) image → IsRefused blocks image fault) }
+    ensures refused { IfErr result (λ fault. (image : List (List ℕ)) → 2 ≤ blocks → ChoosesSuper (fields_of sup.now) image → IsRefused blocks image fault) }
 {
     if sup.blocks != blocks {
         return Err(MountFault::DiskSize(blocks));

@@ -12,8 +12,8 @@ ghost use Rattle.fx_record.specs.Txns as records;
 ghost use Rattle.fx_record.specs.Txns.{IsTxns, txns_of};
 ghost use Rattle.fx_journal.specs.Stream.{IsSeries};
 ghost use Rattle.fx_super.specs.Super.{KeepsRules, fields_of};
-ghost use Rattle.fx_log.specs.Chosen.{Chooses, layers_of, start_of};
-ghost use Rattle.fx_image.specs.Standing.{HasRoom, StandsFor, Transactions, items_after, kept, lists_of, pieces_of};
+ghost use Rattle.fx_log.specs.Chosen.{ChoosesSuper, layers_of, start_of};
+ghost use Rattle.fx_image.specs.Standing.{HasSessionRoom, StandsFor, Transactions, items_after, kept, lists_of, stream_pieces};
 ghost use Rattle.fx_mount.specs.Found.{HasStream, HasSuper, IsMountCause};
 ghost use Rattle.fx_mount.specs.Growing.{AreParentsFirst, HasNodes, HasPaths, MayStand, empty_node};
 ghost use Rattle.fx_store.specs.Session.{KnowsNodes, new_step};
@@ -40,7 +40,7 @@ pub(crate) fn read_journal<D: Disk>(
     requires rules { KeepsRules (fields_of sup.now) }
     requires disk { sup.now.blocks ≡ D.size disk.old }
     requires layers { layers_of (fields_of sup.now) ≡ [] }
-    requires chosen { IfSome (D.told disk.old) (λ r. Chooses (fields_of sup.now) r.contents) }
+    requires chosen { IfSome (D.told disk.old) (λ r. ChoosesSuper (fields_of sup.now) r.contents) }
     ensures reads { IfOk result (IsRead (D.size disk.old) (D.told disk.old) (fields_of sup.now)) }
     ensures cause { IfErr result (IsMountCause (D.size disk.old) (D.told disk.old) (D.faults disk.old) (D.faults disk.new)) }
     ensures told { D.told disk.new ≡ D.told disk.old }
@@ -63,9 +63,9 @@ fn read_contents(alloc: Global, sup: &Super, stream: Stream) -> Result<Contents,
     requires few { length stream.blocks ≤ sup.now.ring }
     requires series { IsSeries sup.now.generation (start_of (fields_of sup.now)) stream.blocks stream.next }
     ensures next { IfOk result (λ c. (c.closed ≡ length stream.blocks) × (c.next ≡ stream.next)) }
-    ensures txns { IfOk result (λ c. IsTxns sup.now.base (pieces_of stream.blocks) (txns_of c.txns)) }
+    ensures txns { IfOk result (λ c. IsTxns sup.now.base (stream_pieces stream.blocks) (txns_of c.txns)) }
     ensures base { IfOk result (λ c. kept (fields_of sup.now) (txns_of c.txns) ≡ c.base) }
-    ensures room { IfOk result (λ c. HasRoom (fields_of sup.now) (txns_of c.txns)) }
+    ensures room { IfOk result (λ c. HasSessionRoom (fields_of sup.now) (txns_of c.txns)) }
     ensures stands { IfOk result (λ c. StandsFor (items_after (txns_of c.txns)) c.tree) }
     ensures nodes { IfOk result (λ c. KnowsNodes (items_after (txns_of c.txns)) c.nodes) }
     ensures next_id { IfOk result (λ c. c.next_id ≡ next_id_after sup.now.next_id (lists_of (txns_of c.txns))) }
@@ -76,7 +76,7 @@ fn read_contents(alloc: Global, sup: &Super, stream: Stream) -> Result<Contents,
 {
     let closed = stream.blocks.len() as u32;
     let next = stream.next;
-    let pieces = pieces_of(alloc, stream.blocks)?;
+    let pieces = stream_pieces(alloc, stream.blocks)?;
     let txns = match read_txns(alloc, sup.base, &pieces) {
         Ok(txns) => txns,
         Err(TxnsFault::BadRecord(place)) => return Err(MountFault::BadRecord(place)),
@@ -107,8 +107,8 @@ fn read_contents(alloc: Global, sup: &Super, stream: Stream) -> Result<Contents,
 }
 
 /// The blocks as their epochs and record bytes.
-fn pieces_of(alloc: Global, blocks: Blocks) -> Result<Vec<Piece>, AllocError>
-    ensures { IfOk result (λ pieces. records.pieces_of pieces.items ≡ pieces_of blocks) }
+fn stream_pieces(alloc: Global, blocks: Blocks) -> Result<Vec<Piece>, AllocError>
+    ensures { IfOk result (λ pieces. records.stream_pieces pieces.items ≡ stream_pieces blocks) }
 {
     let mut pieces = Vec::with_capacity(alloc, blocks.len())?;
     for block in blocks.into_vec() {
@@ -136,7 +136,7 @@ fn gather(alloc: Global, sup: &Super, txns: &Txns) -> Result<ItemTable, AllocErr
 fn has_room(sup: &Super, base: u64, table: &ItemTable) -> bool
     requires rules { KeepsRules (fields_of sup.now) }
     requires few { base < 2 ^ 63 }
-    ensures { (txns : Transactions) → kept (fields_of sup.now) txns ≡ base → IsGathered (fields_of sup.now) txns table.now → IsTrue result ↔ HasRoom (fields_of sup.now) txns }
+    ensures { (txns : Transactions) → kept (fields_of sup.now) txns ≡ base → IsGathered (fields_of sup.now) txns table.now → IsTrue result ↔ HasSessionRoom (fields_of sup.now) txns }
 {
     const COUNTS: u64 = 1 << 40;
     const IDS: u64 = 1 << 23;

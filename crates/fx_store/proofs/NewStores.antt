@@ -13,13 +13,14 @@ use Rattle.fx_jblock.specs.declared.Start.{Start}
 use Rattle.fx_journal.specs.Ring.{IsRing, KeepsBuffers, RingState, begun, blocks_out, live}
 use Rattle.fx_pool.specs.Region.{IsSound, Region, Run}
 use Rattle.fx_record.specs.Txns.{txns_of}
-use Rattle.fx_log.specs.Chosen.{Chooses, next_generation, start_of}
+use Rattle.fx_log.specs.Chosen.{ChoosesSuper, next_generation, start_of}
 use Rattle.fx_image.specs.Standing.{Transactions, items_after, lists_of}
 use Rattle.fx_image.specs.Journal.{HasJournal, IsJournal}
-use Rattle.fx_image.proofs.JournalStart.{journal-begun, series-next}
+use Rattle.fx_image.proofs.JournalStart.{journal-new}
+use Rattle.fx_log.proofs.LogRaised.{series-next}
 use Rattle.fx_image.proofs.JournalTold.{ReadsAs, told-raise, told-begun-flush, told-mounted}
 use Rattle.fx_log.proofs.SuperChoice.{one_super, stream_chosen}
-use Rattle.fx_image.proofs.Mounted.{mounted-begun}
+use Rattle.fx_image.proofs.Mounted.{mounted-new}
 use Rattle.fx_image.proofs.MountUnfinished.{told-unfinished}
 use Rattle.fx_image.specs.Prefix.{KeepsPrefix}
 use Rattle.fx_log.specs.Raising.{ChoosesNext, ChoosesSince}
@@ -34,7 +35,7 @@ use Rattle.fx_store.proofs.Keeps.{if-both}
 
 -- what was read is a journal on which nothing was committed yet
 pub is_journal : (size from : ℕ) (f : Fields) (read : Read) → FitsTogether size f read → (calls : ℕ) → IsJournal (journal_of size from f read) calls
-is_journal size from f read fits calls = journal-begun size from read.tree read.base f read.blocks read.place read.txns fits.reading fits.few calls fits.stands
+is_journal size from f read fits calls = journal-new size from read.tree read.base f read.blocks read.place read.txns fits.reading fits.few calls fits.stands
 
 module _ (size calls : ℕ) (before : Option DiskRecord) (which : Which) (f : Fields) (read : Read) (is : IfSome before (IsRecordOf size calls))
     (chosen : IfSome before (λ r. IsChosen r.contents which f)) (on : IfSome before (IsOn f read)) (fits : FitsTogether size f read) where
@@ -55,7 +56,7 @@ told-flushed size calls f read fits mid after count counted made ok w d =
 module _ (size : ℕ) (told : Option DiskRecord) (f : Fields) (c : Contents) (is : IsRead size told f c) where
   -- the place after the blocks of the stream
   pub next_place : c.next.sequence ≡ f.sequence + c.closed
-  next_place = omega (arith, series-next f.generation (start_of f) c.next is.blocks is.reading.series, is.closed_is)
+  next_place = omega (arith, series-next f.generation (start_of f) c.next is.blocks is.reading.head.series, is.closed_is)
 
   pub closed_few : c.closed ≤ f.ring
   closed_few = omega (arith, is.few, is.closed_is)
@@ -131,7 +132,7 @@ module _ (size : ℕ) (f : Fields) (read : Read) (fits : FitsTogether size f rea
       size_is = sym same;
       from_is = refl;
       opens = fits.stands;
-      mounted = mounted-begun size from read.tree read.base f read.blocks read.place read.txns calls after ring pool fits.reading fits.few fits.stands
+      mounted = mounted-new size from read.tree read.base f read.blocks read.place read.txns calls after ring pool fits.reading fits.few fits.stands
           (told-mounted (journal_of size from f read) after has next) p.ring_is;
       session = p.session from;
       buffers = p.buffers;

@@ -37,7 +37,7 @@ use Rattle.fx_record.specs.Record.{IsRecord, TransactionRecord, record_bytes}
 use Rattle.fx_record.specs.Commits.{IsCommit}
 use Rattle.fx_record.proofs.Commits.{is_record}
 use Rattle.fx_record.proofs.Lengths.{few_commit, few_len, sum_text}
-use Rattle.fx_image.specs.Log.{AreItemsOf, OfDirectory, OfFile, OfWrite}
+use Rattle.fx_image.specs.Replay.{AreItemsOf, OfDirectory, OfFile, OfWrite}
 use Rattle.fx_image.proofs.ReplaySteps.{tree_of_bare, mkdir_leads, create_leads, create_inner, write_leads, step_ascends, step_are_items}
 use Rattle.fx_store.specs.Nodes.{NodeTable}
 use Rattle.fx_store.specs.Session.{KnowsNodes, Knows, IsPlan, new_step}

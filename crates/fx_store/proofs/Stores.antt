@@ -27,14 +27,15 @@ use Rattle.fx_disk.specs.Steps.{IsRecordOf, Writes, Flushes, MadeOrNot}
 use Rattle.fx_pool.specs.Region.{Region}
 use Rattle.fx_journal.specs.Ring.{RingState, IsRing, KeepsBuffers, Queued, HoldsQueue, Appended, begun, blocks_out, next_block, padded, padded_by, padding, run_blocks, texts, without_first}
 use Rattle.fx_journal.specs.Writing.{block_at, first_bytes}
-use Rattle.fx_image.specs.Log.{AreItemsOf}
+use Rattle.fx_image.specs.Replay.{AreItemsOf}
 use Rattle.fx_log.specs.Ring.{HasRecords}
 use Rattle.fx_image.specs.Standing.{Transactions, StandsFor, items_after, lists_of}
-use Rattle.fx_image.specs.Journal.{Journal, IsJournal, IsOnDisk, IsWrittenOut, commit_bytes, with_commit, with_closed, with_written, with_settled}
+use Rattle.fx_image.specs.Journal.{Journal, IsJournal, IsOnDisk, commit_bytes, with_commit, with_closed, with_written, with_settled}
+use Rattle.fx_log.specs.Log.{IsWrittenOut}
 use Rattle.fx_image.specs.Prefix.{KeepsPrefix, KeepsAll}
 use Rattle.fx_log.specs.Raising.{ChoosesSince, ChoosesNext}
 use Rattle.fx_image.specs.Mounted.{IsMounted}
-use Rattle.fx_image.proofs.Replay.{log_now}
+use Rattle.fx_image.proofs.Replay.{replay_now}
 use Rattle.fx_image.proofs.ReplaySteps.{after_one}
 use Rattle.fx_image.proofs.NextCommit.{id_now, store_now, below-now, id-low, store-low, next-commit}
 use Rattle.fx_disk.proofs.Made.{made-counts}
@@ -55,9 +56,9 @@ texts-most [] h = omega arith
 texts-most (q ∷ qs) h =
     omega (arith, length-append q.text (texts qs), (All-head HasRecords q qs h).room, texts-most qs (All-tail HasRecords q qs h))
 
-pub commits-few : (j : Journal) (calls : ℕ) → IsJournal j calls → length j.text < 4064 → length j.history < 2 ^ 20
+pub commits-few : (j : Journal) (calls : ℕ) → IsJournal j calls → length j.log.tail.text < 4064 → length j.commits.history < 2 ^ 20
 commits-few j calls h short =
-    omega (arith, ap length h.records.joined, length-append (texts j.blocks) j.text, texts-most j.blocks h.closed.records, h.closed.room, h.reading.rules.ring_most, least_length j.base j.records, h.log.one_each, short)
+    omega (arith, ap length h.records.joined, length-append (texts j.log.tail.blocks) j.log.tail.text, texts-most j.log.tail.blocks h.tail.closed.records, h.tail.closed.room, h.reading.head.rules.ring_most, least_length j.opening.base j.commits.records, h.replays.one_each, short)
 
 -- ---- the ring and its buffers
 
@@ -105,7 +106,7 @@ module _ (size calls : ℕ) (told : Option DiskRecord) (from : ℕ) (s : Session
   abbrev is_journal : IsJournal j calls
   is_journal = h.mounted.journal
 
-  length-is : length s.history.items ≡ length j.history
+  length-is : length s.history.items ≡ length j.commits.history
   length-is = ap length h.session.history
 
   -- the numbers of commits are low
@@ -113,24 +114,24 @@ module _ (size calls : ℕ) (told : Option DiskRecord) (from : ℕ) (s : Session
   number-low = omega (arith, h.session.base, length-is, is_journal.few.few, is_journal.reading.room.commits, is_journal.reading.base_is)
 
   -- the transactions stand for one tree
-  pub opening-is : (opening : Tree) → Opens (txns_of s.txns) opening → opening ≡ j.tree
-  opening-is opening o = one_tree (items_after j.txns) holdings.bare opening j.tree (subst (λ (t : Transactions). IsTreeOf (items_after t) holdings.bare opening) h.session.txns o.tree_is) h.opens.tree_is
+  pub opening-is : (opening : Tree) → Opens (txns_of s.txns) opening → opening ≡ j.opening.tree
+  opening-is opening o = one_tree (items_after j.opening.txns) holdings.bare opening j.opening.tree (subst (λ (t : Transactions). IsTreeOf (items_after t) holdings.bare opening) h.session.txns o.tree_is) h.opens.tree_is
 
   -- the tree now is the one that the history leads to
   pub current : (opening : Tree) → Opens (txns_of s.txns) opening → s.tree ≡ tree_at opening s.history.items (s.base + length s.history.items)
   current opening o =
       h.session.tree
-      ∙ ap (λ (t : Tree). tree_at t j.history (j.base + length j.history)) (sym (opening-is opening o))
-      ∙ ap (λ (es : List Entry). tree_at opening es (j.base + length es)) (sym h.session.history)
+      ∙ ap (λ (t : Tree). tree_at t j.commits.history (j.opening.base + length j.commits.history)) (sym (opening-is opening o))
+      ∙ ap (λ (es : List Entry). tree_at opening es (j.opening.base + length es)) (sym h.session.history)
       ∙ ap (λ (b : ℕ). tree_at opening s.history.items (b + length s.history.items)) (sym h.session.base)
 
   -- the session knows what stands
   pub knows : IsSession (items_now j) s
   knows = record {
-    stands = subst (λ (t : Tree). StandsFor (items_now j) (bare t)) (sym h.session.tree) (log_now j.tree j.base j.txns j.history j.records is_journal.log);
+    stands = subst (λ (t : Tree). StandsFor (items_now j) (bare t)) (sym h.session.tree) (replay_now j.opening.tree j.opening.base j.opening.txns j.commits.history j.commits.records is_journal.replays);
     knows = h.session.knows;
     below = subst (λ (n : ℕ). IsBelow (items_now j) s.next.id n) (sym h.session.store)
-        (subst (λ (n : ℕ). IsBelow (items_now j) n (next_store_after j.super.next_store (lists_of j.txns ++ j.records))) (sym h.session.id) (below-now j calls is_journal));
+        (subst (λ (n : ℕ). IsBelow (items_now j) n (next_store_after j.log.head.super.next_store (lists_of j.opening.txns ++ j.commits.records))) (sym h.session.id) (below-now j calls is_journal));
     ids = omega (arith, h.session.id, id-low j calls is_journal);
     stores = omega (arith, h.session.store, store-low j calls is_journal);
   }
@@ -181,35 +182,35 @@ module _ (size calls : ℕ) (told : Option DiskRecord) (from : ℕ) (s : Session
     abbrev list : List PlainItem
     list = ready.list
 
-    appended : Appended ring new region (drop j.written j.blocks) (commit_bytes entry list)
-    appended = subst (Appended ring new region (drop j.written j.blocks)) ready.bytes (d.appended (drop j.written j.blocks) h.mounted.ring_is.queue)
+    appended : Appended ring new region (drop j.log.tail.written j.log.tail.blocks) (commit_bytes entry list)
+    appended = subst (Appended ring new region (drop j.log.tail.written j.log.tail.blocks)) ready.bytes (d.appended (drop j.log.tail.written j.log.tail.blocks) h.mounted.ring_is.queue)
 
     abbrev k : Journal
     k = with_commit j entry list appended.blocks new.chain new.text
 
-    numbered : entry.number ≡ j.base + length j.history + 1
+    numbered : entry.number ≡ j.opening.base + length j.commits.history + 1
     numbered = omega (arith, number, h.session.base, length-is)
 
     answer : (a : Answer) × ((do_step s.tree step).0 ≡ Ok a)
     answer = done_from (do_step s.tree step).0 done
 
-    done-there : (do_step (tree_at j.tree j.history (j.base + length j.history)) step).0 ≡ Ok answer.0
+    done-there : (do_step (tree_at j.opening.tree j.commits.history (j.opening.base + length j.commits.history)) step).0 ≡ Ok answer.0
     done-there = ap (λ (x : Tree). (do_step x step).0) (sym h.session.tree) ∙ answer.1
 
     are : AreItemsOf (items_now j) (id_now j) (store_now j) step list
     are = subst (λ (n : ℕ). AreItemsOf (items_now j) (id_now j) n step list) h.session.store (subst (λ (n : ℕ). AreItemsOf (items_now j) n s.next.store step list) h.session.id ready.plan.are)
 
-    lists-more : (lists_of j.txns ++ j.records) ++ list ∷ [] ≡ lists_of j.txns ++ (j.records ++ list ∷ [])
-    lists-more = append_assoc (lists_of j.txns) j.records (list ∷ [])
+    lists-more : (lists_of j.opening.txns ++ j.commits.records) ++ list ∷ [] ≡ lists_of j.opening.txns ++ (j.commits.records ++ list ∷ [])
+    lists-more = append_assoc (lists_of j.opening.txns) j.commits.records (list ∷ [])
 
     items-more : after (items_now j) list ≡ items_now k
-    items-more = sym (after_all-more (lists_of j.txns ++ j.records) list) ∙ ap after_all lists-more
+    items-more = sym (after_all-more (lists_of j.opening.txns ++ j.commits.records) list) ∙ ap after_all lists-more
 
-    tree-more : (do_step s.tree step).1 ≡ tree_at j.tree (j.history ++ entry ∷ []) (j.base + length (j.history ++ entry ∷ []))
+    tree-more : (do_step s.tree step).1 ≡ tree_at j.opening.tree (j.commits.history ++ entry ∷ []) (j.opening.base + length (j.commits.history ++ entry ∷ []))
     tree-more =
         ap (λ (x : Tree). (do_step x step).1) h.session.tree
-        ∙ sym (after_one (tree_at j.tree j.history (j.base + length j.history)) entry step answer.0 one done-there)
-        ∙ sym (tree_next j.tree j.base j.history entry is_journal.legal numbered)
+        ∙ sym (after_one (tree_at j.opening.tree j.commits.history (j.opening.base + length j.commits.history)) entry step answer.0 one done-there)
+        ∙ sym (tree_next j.opening.tree j.opening.base j.commits.history entry is_journal.legal numbered)
 
     pub store-done : IsStore size calls told from t new region
     store-done = record {
@@ -227,8 +228,8 @@ module _ (size calls : ℕ) (told : Option DiskRecord) (from : ℕ) (s : Session
         settled = ap (λ (x : Session). x.settled) d.session ∙ h.session.settled;
         tree = ap (λ (x : Session). x.tree) d.session ∙ tree-more;
         knows = subst (λ (m : ItemMap). KnowsNodes m t.nodes) items-more (subst (KnowsNodes (after (items_now j) list)) (ap (λ (x : Session). x.nodes) (sym d.session)) ready.plan.knows);
-        id = ap (λ (x : Session). x.next.id) d.session ∙ ready.plan.id ∙ ap (λ (n : ℕ). next_id n list) h.session.id ∙ sym (next_id_after-more j.super.next_id (lists_of j.txns ++ j.records) list) ∙ ap (next_id_after j.super.next_id) lists-more;
-        store = ap (λ (x : Session). x.next.store) d.session ∙ ready.plan.store ∙ ap (λ (n : ℕ). next_store n list) h.session.store ∙ sym (next_store_after-more j.super.next_store (lists_of j.txns ++ j.records) list) ∙ ap (next_store_after j.super.next_store) lists-more;
+        id = ap (λ (x : Session). x.next.id) d.session ∙ ready.plan.id ∙ ap (λ (n : ℕ). next_id n list) h.session.id ∙ sym (next_id_after-more j.log.head.super.next_id (lists_of j.opening.txns ++ j.commits.records) list) ∙ ap (next_id_after j.log.head.super.next_id) lists-more;
+        store = ap (λ (x : Session). x.next.store) d.session ∙ ready.plan.store ∙ ap (λ (n : ℕ). next_store n list) h.session.store ∙ sym (next_store_after-more j.log.head.super.next_store (lists_of j.opening.txns ++ j.commits.records) list) ∙ ap (next_store_after j.log.head.super.next_store) lists-more;
       };
       buffers = d.buffers;
     }
@@ -242,7 +243,7 @@ module _ (size calls : ℕ) (told : Option DiskRecord) (from : ℕ) (s : Session
     size_is = h.size_is;
     from_is = h.from_is;
     opens = h.opens;
-    mounted = mounted-padded j calls told ring pool h.mounted new region is e (queue (drop j.written j.blocks) h.mounted.ring_is.queue);
+    mounted = mounted-padded j calls told ring pool h.mounted new region is e (queue (drop j.log.tail.written j.log.tail.blocks) h.mounted.ring_is.queue);
     session = record { base = h.session.base; txns = h.session.txns; history = h.session.history; settled = h.session.settled; tree = h.session.tree; knows = h.session.knows; id = h.session.id; store = h.session.store };
     buffers = buffers-padded ring new pool region h.buffers e is keeps out order;
   }
@@ -251,8 +252,8 @@ module _ (size calls : ℕ) (told : Option DiskRecord) (from : ℕ) (s : Session
     -- the first block that waits is written, or the write failed
     module _ (before sequence : ℕ) (next : next_block ring before ≡ Some sequence)
         (w : (queue : List Queued) → HoldsQueue ring pool queue → MadeOrNot calls counted made ok (Writes told after_told (block_at ring sequence) (first_bytes ring.epoch queue) ok) (after_told ≡ told)) where
-      abbrev wrote : MadeOrNot calls counted made ok (Writes told after_told (block_at ring sequence) (first_bytes ring.epoch (drop j.written j.blocks)) ok) (after_told ≡ told)
-      wrote = w (drop j.written j.blocks) h.mounted.ring_is.queue
+      abbrev wrote : MadeOrNot calls counted made ok (Writes told after_told (block_at ring sequence) (first_bytes ring.epoch (drop j.log.tail.written j.log.tail.blocks)) ok) (after_told ≡ told)
+      wrote = w (drop j.log.tail.written j.log.tail.blocks) h.mounted.ring_is.queue
 
       pub store-tried : IsStore size_after counted after_told from s ring pool
       store-tried = record {
@@ -272,7 +273,7 @@ module _ (size calls : ℕ) (told : Option DiskRecord) (from : ℕ) (s : Session
         size_is = h.size_is ∙ sym same_size;
         from_is = h.from_is;
         opens = h.opens;
-        mounted = mounted-written j calls told ring pool h.mounted size is after_told counted made ok before sequence next wrote good new region e (queue (drop j.written j.blocks) h.mounted.ring_is.queue);
+        mounted = mounted-written j calls told ring pool h.mounted size is after_told counted made ok before sequence next wrote good new region e (queue (drop j.log.tail.written j.log.tail.blocks) h.mounted.ring_is.queue);
         session = record { base = h.session.base; txns = h.session.txns; history = h.session.history; settled = h.session.settled; tree = h.session.tree; knows = h.session.knows; id = h.session.id; store = h.session.store };
         buffers = buffers-written ring new pool region h.buffers e ring_is keeps given order;
       }
@@ -292,9 +293,9 @@ module _ (size calls : ℕ) (told : Option DiskRecord) (from : ℕ) (s : Session
 
       -- no block waits
       module _ (good : ok ≡ true) (none : ring.queued + begun ring.text ≡ 0) where
-        out : IsWrittenOut j
+        out : IsWrittenOut j.log.tail
         out = record {
-          written = omega (arith, none, h.mounted.ring_is.queue.count, length-drop j.written j.blocks, is_journal.most);
+          written = omega (arith, none, h.mounted.ring_is.queue.count, length-drop j.log.tail.written j.log.tail.blocks, is_journal.tail.most);
           text = sym h.mounted.ring_is.text ∙ none-begun ring.text (omega (arith, none));
         }
 
@@ -308,7 +309,7 @@ module _ (size calls : ℕ) (told : Option DiskRecord) (from : ℕ) (s : Session
         counted-is = made-counts calls counted made ok _ _ good w
 
         module _ (t : Session) (e : t ≡ record s { settled = length s.history.items; history = t.history }) (items : t.history.items ≡ settle counted s.history.items) where
-          history-is : t.history.items ≡ settle (calls + 1) j.history
+          history-is : t.history.items ≡ settle (calls + 1) j.commits.history
           history-is = items ∙ ap (λ (n : ℕ). settle n s.history.items) counted-is ∙ ap (settle (calls + 1)) h.session.history
 
           pub store-settled : IsStore size_after counted after_told from t ring pool
@@ -323,7 +324,7 @@ module _ (size calls : ℕ) (told : Option DiskRecord) (from : ℕ) (s : Session
               txns = ap (λ (x : Session). txns_of x.txns) e ∙ h.session.txns;
               history = history-is;
               settled = ap (λ (x : Session). x.settled) e ∙ length-is;
-              tree = ap (λ (x : Session). x.tree) e ∙ h.session.tree ∙ sym (tree_now_settle j.tree j.base (calls + 1) j.history);
+              tree = ap (λ (x : Session). x.tree) e ∙ h.session.tree ∙ sym (tree_now_settle j.opening.tree j.opening.base (calls + 1) j.commits.history);
               knows = subst (KnowsNodes (items_now j)) (ap (λ (x : Session). x.nodes) (sym e)) h.session.knows;
               id = ap (λ (x : Session). x.next.id) e ∙ h.session.id;
               store = ap (λ (x : Session). x.next.store) e ∙ h.session.store;
@@ -333,13 +334,13 @@ module _ (size calls : ℕ) (told : Option DiskRecord) (from : ℕ) (s : Session
 
           -- every image left has the whole history
           pub store-whole : IfSome after_told (KeepsWhole size_after from (txns_of s.txns) s.base t.history.items)
-          store-whole = told-map (KeepsAll flushed.size flushed.from flushed.tree flushed.base flushed.history) (KeepsWhole size_after from (txns_of s.txns) s.base t.history.items) after_told
+          store-whole = told-map (KeepsAll flushed.log.size flushed.log.from flushed.opening.tree flushed.opening.base flushed.commits.history) (KeepsWhole size_after from (txns_of s.txns) s.base t.history.items) after_told
               (λ r all opening opens.
               subst (λ (n : ℕ). KeepsAll n from opening s.base t.history.items r) (h.size_is ∙ sym same_size)
-              (subst (λ (n : ℕ). KeepsAll j.size n opening s.base t.history.items r) h.from_is
-              (subst (λ (x : Tree). KeepsAll j.size j.from x s.base t.history.items r) (sym (opening-is opening opens))
-              (subst (λ (n : ℕ). KeepsAll j.size j.from j.tree n t.history.items r) (sym h.session.base)
-              (subst (λ (es : List Entry). KeepsAll j.size j.from j.tree j.base es r) (sym history-is) all)))))
+              (subst (λ (n : ℕ). KeepsAll j.log.size n opening s.base t.history.items r) h.from_is
+              (subst (λ (x : Tree). KeepsAll j.log.size j.log.from x s.base t.history.items r) (sym (opening-is opening opens))
+              (subst (λ (n : ℕ). KeepsAll j.log.size j.log.from j.opening.tree n t.history.items r) (sym h.session.base)
+              (subst (λ (es : List Entry). KeepsAll j.log.size j.log.from j.opening.tree j.opening.base es r) (sym history-is) all)))))
               (mounted-all flushed counted after_told ring pool mounted-now (settled-out (calls + 1) j out) refl)
 
   -- ---- the end
@@ -350,18 +351,18 @@ module _ (size calls : ℕ) (told : Option DiskRecord) (from : ℕ) (s : Session
 
   -- what the session knows of the commits that are settled
   pub store-first : SettledFirst s.settled s.history.items
-  store-first = subst (λ (n : ℕ). SettledFirst n s.history.items) (sym h.session.settled) (subst (SettledFirst j.marks) (sym h.session.history) is_journal.marked.first)
+  store-first = subst (λ (n : ℕ). SettledFirst n s.history.items) (sym h.session.settled) (subst (SettledFirst j.commits.marks) (sym h.session.history) is_journal.marked.first)
 
   pub store-marks : s.settled ≤ length s.history.items
   store-marks = omega (arith, h.session.settled, length-is, is_journal.marked.few)
 
   -- some blocks wait
   pub store-queue : (queue : List Queued) × HoldsQueue ring pool queue
-  store-queue = (drop j.written j.blocks, h.mounted.ring_is.queue)
+  store-queue = (drop j.log.tail.written j.log.tail.blocks, h.mounted.ring_is.queue)
 
   -- the disk has room for the ring
   pub store-room : ring.size + 2 ≤ size
-  store-room = omega (arith, h.mounted.ring_is.size, is_journal.reading.rules.blocks_least, is_journal.reading.rules.ring_least, is_journal.reading.blocks, h.size_is)
+  store-room = omega (arith, h.mounted.ring_is.size, is_journal.reading.head.rules.blocks_least, is_journal.reading.head.rules.ring_least, is_journal.reading.head.blocks, h.size_is)
 
   -- there is a buffer for one more block
   pub store-free : blocks_out pool + 1 ≤ 2 ^ pool.order
@@ -370,14 +371,14 @@ module _ (size calls : ℕ) (told : Option DiskRecord) (from : ℕ) (s : Session
   pub store-images : IfSome told (KeepsImages size from (txns_of s.txns) s.base s.history.items)
   store-images = told-map (IsOnDisk j) (KeepsImages size from (txns_of s.txns) s.base s.history.items) told
       (λ r d. record {
-        super = subst (λ (n : ℕ). ChoosesSince n r) h.from_is d.journal.chooses;
+        super = subst (λ (n : ℕ). ChoosesSince n r) h.from_is d.journal.log.chooses;
         next = subst (λ (n : ℕ). ChoosesNext n r) h.from_is d.next;
         prefix = λ opening opens.
             subst (λ (n : ℕ). KeepsPrefix n from opening s.base s.history.items r) h.size_is
-            (subst (λ (n : ℕ). KeepsPrefix j.size n opening s.base s.history.items r) h.from_is
-            (subst (λ (x : Tree). KeepsPrefix j.size j.from x s.base s.history.items r) (sym (opening-is opening opens))
-            (subst (λ (n : ℕ). KeepsPrefix j.size j.from j.tree n s.history.items r) (sym h.session.base)
-            (subst (λ (es : List Entry). KeepsPrefix j.size j.from j.tree j.base es r) (sym h.session.history) d.journal.keeps))));
+            (subst (λ (n : ℕ). KeepsPrefix j.log.size n opening s.base s.history.items r) h.from_is
+            (subst (λ (x : Tree). KeepsPrefix j.log.size j.log.from x s.base s.history.items r) (sym (opening-is opening opens))
+            (subst (λ (n : ℕ). KeepsPrefix j.log.size j.log.from j.opening.tree n s.history.items r) (sym h.session.base)
+            (subst (λ (es : List Entry). KeepsPrefix j.log.size j.log.from j.opening.tree j.opening.base es r) (sym h.session.history) d.journal.keeps))));
       })
       h.mounted.disk
 

@@ -27,9 +27,9 @@ pub record HasBuffers (ring : RingState) (pool : Region) : Type 0 where
 -- The state of a disk of so many blocks after so many calls, which tells this and was mounted after `from` calls.
 pub record IsStore (size calls : ℕ) (told : Option DiskRecord) (from : ℕ) (s : Session) (ring : RingState) (pool : Region) : Type 0 where
   pub journal : Journal
-  pub size_is : journal.size ≡ size
-  pub from_is : journal.from ≡ from
-  pub opens : StandsFor (items_after journal.txns) journal.tree
+  pub size_is : journal.log.size ≡ size
+  pub from_is : journal.log.from ≡ from
+  pub opens : StandsFor (items_after journal.opening.txns) journal.opening.tree
   pub mounted : IsMounted journal calls told ring pool
   pub session : IsSessionOf journal s
   pub buffers : HasBuffers ring pool

@@ -14,7 +14,7 @@ use Rattle.fx_pool.specs.Region.{Region}
 use Rattle.fx_record.specs.Txns.{txns_of}
 use Rattle.fx_log.specs.Chosen.{start_of}
 use Rattle.fx_image.specs.Standing.{StandsFor, Transactions, items_after, lists_of}
-use Rattle.fx_image.specs.Journal.{IsReading, Journal, begun_journal}
+use Rattle.fx_image.specs.Journal.{IsReading, Journal, new_journal}
 use Rattle.fx_store.specs.Inside.{HasBuffers}
 use Rattle.fx_store.specs.Session.{IsSessionOf, KnowsNodes}
 use Rattle.fx_store.specs.declared.opening.Contents.{Contents}
@@ -63,7 +63,7 @@ read_of c blocks = record {
 -- the journal that goes on from it
 abbrev pub journal_of : (size from : ℕ) → Fields → Read → Journal
 journal_of size from f read =
-    begun_journal size from read.tree read.base f read.blocks read.place read.txns
+    new_journal size from read.tree read.base f read.blocks read.place read.txns
 
 -- This was read of a disk of so many blocks with that superblock, and it fits together.
 pub record FitsTogether (size : ℕ) (f : Fields) (read : Read) : Type 0 where

@@ -15,7 +15,7 @@ use Rattle.fx_record.specs.Record.{TransactionRecord, record_bytes}
 use Rattle.fx_record.specs.Txns.{txns_of}
 use Rattle.fx_history.specs.History.{tree_at}
 use Rattle.fx_image.specs.Standing.{StandsFor, lists_of}
-use Rattle.fx_image.specs.Log.{AreItemsOf}
+use Rattle.fx_image.specs.Replay.{AreItemsOf}
 use Rattle.fx_image.specs.Journal.{Journal}
 use Rattle.fx_store.specs.Nodes.{NodeTable}
 use Rattle.fx_store.specs.declared.commit.Numbers.{Numbers}
@@ -59,15 +59,15 @@ pub record IsReady (items : ItemMap) (nodes : NodeTable) (before : Numbers) (ste
 
 -- what stands after the journal's commits
 abbrev pub items_now : Journal → ItemMap
-items_now j = after_all (lists_of j.txns ++ j.records)
+items_now j = after_all (lists_of j.opening.txns ++ j.commits.records)
 
 -- The session is that of the journal's commits.
 pub record IsSessionOf (j : Journal) (s : Session) : Type 0 where
-  pub base : s.base ≡ j.base
-  pub txns : txns_of s.txns ≡ j.txns
-  pub history : s.history.items ≡ j.history
-  pub settled : s.settled ≡ j.marks
-  pub tree : s.tree ≡ tree_at j.tree j.history (j.base + length j.history)
+  pub base : s.base ≡ j.opening.base
+  pub txns : txns_of s.txns ≡ j.opening.txns
+  pub history : s.history.items ≡ j.commits.history
+  pub settled : s.settled ≡ j.commits.marks
+  pub tree : s.tree ≡ tree_at j.opening.tree j.commits.history (j.opening.base + length j.commits.history)
   pub knows : KnowsNodes (items_now j) s.nodes
-  pub id : s.next.id ≡ next_id_after j.super.next_id (lists_of j.txns ++ j.records)
-  pub store : s.next.store ≡ next_store_after j.super.next_store (lists_of j.txns ++ j.records)
+  pub id : s.next.id ≡ next_id_after j.log.head.super.next_id (lists_of j.opening.txns ++ j.commits.records)
+  pub store : s.next.store ≡ next_store_after j.log.head.super.next_store (lists_of j.opening.txns ++ j.commits.records)

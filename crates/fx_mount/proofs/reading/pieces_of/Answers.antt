@@ -1,11 +1,11 @@
 use Rattle.std.proofs.Common.{sym, ap, ◌∙◌, rules, map-id}
 use Rattle.std.proofs.lemmas.Iterator.Adapters.{YieldsList-from_vec}
 use Rattle.std.proofs.lemmas.Iterator.Consumers.{YieldsList-end}
-use Rattle.fx_image.specs.Standing.{pieces_of}
-use Rattle.fx_mount.proofs.reading.pieces_of.Goals as goal
+use Rattle.fx_image.specs.Standing.{stream_pieces}
+use Rattle.fx_mount.proofs.reading.stream_pieces.Goals as goal
 
 pub returns : goal.returns
 returns c =
     let all = YieldsList-from_vec {s = c.into_iter-block-iterator.result} c.args.blocks (search rules) (search rules) in
     let end = YieldsList-end all c.loop-block.yielded c.loop-block.block-iterator c.loop-block.yielded_by c.next.result c.next.new.self c.in-None.is c.next.ensures.steps in
-    c.loop-block.invariant ∙ ap pieces_of (sym (map-id c.loop-block.yielded) ∙ end.0)
+    c.loop-block.invariant ∙ ap stream_pieces (sym (map-id c.loop-block.yielded) ∙ end.0)

@@ -11,16 +11,16 @@ use Rattle.fx_record.specs.Txns as records
 use Rattle.fx_record.specs.Txns.{IsTxns, txns_of}
 use Rattle.fx_record.proofs.Sessions.{txns_hold}
 use Rattle.fx_super.specs.Super.{fields_of}
-use Rattle.fx_image.specs.Standing.{HasRoom, StandsFor, items_after, kept, pieces_of}
+use Rattle.fx_image.specs.Standing.{HasSessionRoom, StandsFor, items_after, kept, stream_pieces}
 use Rattle.fx_mount.proofs.Contents.{knows_after, refused_room, refused_tree, stands_for}
 use Rattle.fx_mount.proofs.reading.read_contents.Goals as goal
 use Rattle.fx_mount.proofs.reading.read_contents.Goals.{In-Ok, In_ok-begun, After-as_slice}
 
-are : (c : In-Ok) → IsTxns c.args.sup.now.base (pieces_of c.args.blocks) (txns_of c.in-Ok.txns)
-are c = subst (λ (blocks : List (ℕ × List ℕ)). IsTxns c.args.sup.now.base blocks (txns_of c.in-Ok.txns)) (ap records.pieces_of c.deref.ensures.value ∙ c.in_ok-pieces.ensures) c.in-Ok.ensures.answer
+are : (c : In-Ok) → IsTxns c.args.sup.now.base (stream_pieces c.args.blocks) (txns_of c.in-Ok.txns)
+are c = subst (λ (blocks : List (ℕ × List ℕ)). IsTxns c.args.sup.now.base blocks (txns_of c.in-Ok.txns)) (ap records.stream_pieces c.deref.ensures.value ∙ c.in_ok-pieces.ensures) c.in-Ok.ensures.answer
 
 pub gather-requires : goal.gather-requires
-gather-requires c = txns_hold c.args.sup.now.base (pieces_of c.args.blocks) (txns_of c.in-Ok.txns) (are ((goal.at.gather-requires c).In-Ok))
+gather-requires c = txns_hold c.args.sup.now.base (stream_pieces c.args.blocks) (txns_of c.in-Ok.txns) (are ((goal.at.gather-requires c).In-Ok))
 
 pub returns-in-Some-clause-refused : goal.returns-in-Some-clause-refused
 returns-in-Some-clause-refused c size image super stream =
@@ -28,7 +28,7 @@ returns-in-Some-clause-refused c size image super stream =
     subst (λ (found : Option LockKey). IfSome found (IsLeastWrong (value_in c.in_ok-table.table.items))) c.in-Some.is c.in_ok-node.ensures.wrong in
     refused_tree (fields_of c.args.sup.now) c.args.blocks (txns_of c.in-Ok.txns) c.in_ok-table.table (are ((goal.at.returns-in-Some-clause-refused c).In-Ok)) c.in_ok-table.ensures size image super stream c.in-Some.node wrong
 
-stands : (c : In_ok-begun) → IsTxns c.args.sup.now.base (pieces_of c.args.blocks) (txns_of c.in-Ok.txns) → StandsFor (items_after (txns_of c.in-Ok.txns)) c.in_ok-begun.begun.tree
+stands : (c : In_ok-begun) → IsTxns c.args.sup.now.base (stream_pieces c.args.blocks) (txns_of c.in-Ok.txns) → StandsFor (items_after (txns_of c.in-Ok.txns)) c.in_ok-begun.begun.tree
 stands c txns = stands_for (fields_of c.args.sup.now) c.args.blocks (txns_of c.in-Ok.txns) c.in_ok-table.table txns c.in_ok-table.ensures c.in_ok-begun.begun.tree
     (subst (λ (found : Option LockKey). IfNone found (Stands (value_in c.in_ok-table.table.items))) c.in_default.is c.in_ok-node.ensures.stands) c.in_ok-begun.ensures.tree
 

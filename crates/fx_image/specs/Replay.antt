@@ -18,9 +18,11 @@ use Rattle.fx_image.specs.Standing.{StandsFor, Transactions, lists_of}
 -- One list of items for each entry of the history: after the transactions, which lead up to the number
 -- `base`, and the lists of the first k entries, the items stand for the tree after these entries, without
 -- what files hold.
-pub record IsLog (tree : Tree) (base : ℕ) (txns : Transactions) (history : List Entry) (records : List (List PlainItem)) : Type 0 where
+pub record Replays (tree : Tree) (base : ℕ) (txns : Transactions) (history : List Entry)
+    (records : List (List PlainItem)) : Type 0 where
   pub one_each : length records ≡ length history
-  pub stands : (k : ℕ) → k ≤ length records → StandsFor (after_all (lists_of txns ++ take k records)) (bare (tree_at tree history (base + k)))
+  pub stands : (k : ℕ) → k ≤ length records →
+      StandsFor (after_all (lists_of txns ++ take k records)) (bare (tree_at tree history (base + k)))
 
 -- The items of a step that is done, where these are the next id and the next store: those of a new node
 -- below the node that the path above leads to, or that of the file that the path leads to.

@@ -1,0 +1,225 @@
+-- The ring's calls, as what happens to the log.
+use Rattle.std.proofs.Common.{◌≡◌, ℕ, zero, suc, ◌+◌, ◌%◌, ◌≤◌, ◌<◌, ◌&&◌, if◌then◌else◌, Bool, true, false, inl, inr, List, [], ◌∷◌, ◌++◌, length, take, drop, refl, sym, subst, ◌∙◌, ap, arith, append-nil, length-append, length-drop}
+use Rattle.std.specs.Prelude.{Some, None, nat_lt, slice_get, Option}
+use Rattle.std.proofs.lemmas.List.{length-take, take-append-drop}
+use Rattle.std.proofs.lemmas.Option.{same_Some, slice_get_cases}
+use Rattle.std.proofs.lemmas.Bool.{and_from, cases_lt, lt-ltb}
+use Rattle.fx_jblock.specs.Block.{journal_block}
+use Rattle.fx_journal.specs.Ring.{RingState, IsRing, Queued, HoldsQueue, Appended, first_place, next_block, number, padded, padded_by, padding, padding_by, texts, without_first, first_chain}
+use Rattle.fx_journal.specs.Writing.{block_at, first_bytes}
+use Rattle.fx_journal.proofs.Writes.{next-waits}
+use Rattle.fx_pool.specs.Region.{Region}
+use Rattle.fx_log.specs.Log.{Log, IsLog, Appends, IsRingOf, IsWrittenOut, closed_log, written_log}
+use Rattle.fx_log.specs.Ring.{AreClosed, place_in, bytes_in}
+use Rattle.fx_log.proofs.LogRaised.{series-next}
+use Rattle.fx_log.proofs.RingClosed.{closed-appended}
+use Rattle.fx_log.proofs.RingPlaces.{drop-get, sequence-linked}
+use Rattle.fx_disk.specs.Record.{DiskRecord}
+use Rattle.fx_disk.specs.Steps.{MadeOrNot, Writes}
+
+front-back : (l : Log) → take l.tail.written l.tail.blocks ++ drop l.tail.written l.tail.blocks ≡ l.tail.blocks
+front-back l = take-append-drop l.tail.written l.tail.blocks
+
+module _ (l : Log) (h : IsLog l) (ring : RingState) (region : Region) (of : IsRingOf l ring region) where
+  -- so many wait
+  pub waiting : ring.queued + l.tail.written ≡ length l.tail.blocks
+  waiting = omega (arith, of.queue.count, length-drop l.tail.written l.tail.blocks, h.tail.most)
+
+  place-is : l.head.place.sequence ≡ l.head.super.sequence + length l.head.read
+  place-is = series-next l.head.super.generation _ l.head.place l.head.read h.head.series
+
+  -- the first of them
+  pub first-is : first_place ring ≡ l.head.place.sequence + l.tail.written
+  first-is = omega (arith, of.sequence, of.closed, waiting, place-is)
+
+  -- ---- further blocks are closed
+
+  module _ (new : RingState) (pool : Region) (more : List Queued) (is : IsRing new) (start : new.start ≡ ring.start) (size : new.size ≡ ring.size) (epoch : new.epoch ≡ ring.epoch)
+      (queued : new.queued + ring.closed ≡ ring.queued + new.closed) (holds : HoldsQueue new pool (drop l.tail.written l.tail.blocks ++ more)) (goes_on : first_chain more new.chain ≡ ring.chain) where
+    same-start : new.start.sequence ≡ ring.start.sequence
+    same-start = ap (λ s. s.sequence) start
+
+    more-are : new.queued ≡ ring.queued + length more
+    more-are = omega (arith, holds.count, length-append (drop l.tail.written l.tail.blocks) more, of.queue.count)
+
+    closed-are : new.closed ≡ length l.head.read + length (l.tail.blocks ++ more)
+    closed-are = omega (arith, more-are, queued, of.closed, length-append l.tail.blocks more)
+
+    first-stays : first_place new ≡ l.head.place.sequence + length (take l.tail.written l.tail.blocks)
+    first-stays = omega (arith, same-start, of.sequence, closed-are, more-are, waiting, place-is, length-append l.tail.blocks more, length-take l.tail.written l.tail.blocks, h.tail.most)
+
+    pub ring-closed : AreClosed l.head.super l.head.read l.head.place (l.tail.blocks ++ more) new.chain
+    ring-closed =
+        let closed : AreClosed l.head.super l.head.read l.head.place (take l.tail.written l.tail.blocks ++ drop l.tail.written l.tail.blocks) l.tail.chain = subst (λ (qs : List Queued). AreClosed l.head.super l.head.read l.head.place qs l.tail.chain) (sym (front-back l)) h.tail.closed in
+        subst (λ (qs : List Queued). AreClosed l.head.super l.head.read l.head.place (qs ++ more) new.chain) (front-back l)
+        (closed-appended l.head.super l.head.read l.head.place (take l.tail.written l.tail.blocks) (drop l.tail.written l.tail.blocks) more l.tail.chain pool new closed holds (epoch ∙ of.epoch) first-stays
+        (λ none. goes_on ∙ of.chain)
+        (omega (arith, is.own_places, closed-are, size, of.size, length-append l.tail.blocks more, ap length (front-back l))))
+
+    back-more : drop l.tail.written (l.tail.blocks ++ more) ≡ drop l.tail.written l.tail.blocks ++ more
+    back-more = drop-more l.tail.written l.tail.blocks h.tail.most
+      where
+        drop-more : (n : ℕ) (xs : List Queued) → n ≤ length xs → drop n (xs ++ more) ≡ drop n xs ++ more
+        drop-more zero xs le = refl
+        drop-more (suc n) [] le = absurd (omega arith)
+        drop-more (suc n) (x ∷ xs) le = drop-more n xs (omega arith)
+
+    pub ring-of-closed : IsRingOf (closed_log l more new.chain new.text) new pool
+    ring-of-closed = record {
+      sequence = same-start ∙ of.sequence;
+      size = size ∙ of.size;
+      epoch = epoch ∙ of.epoch;
+      closed = closed-are;
+      chain = refl;
+      text = refl;
+      queue = subst (HoldsQueue new pool) (sym back-more) holds;
+    }
+
+-- ---- record bytes are appended
+
+module _ (l : Log) (h : IsLog l) (ring : RingState) (region : Region) (of : IsRingOf l ring region)
+    (new : RingState) (pool : Region) (bytes : List ℕ) (is : IsRing new) (start : new.start ≡ ring.start) (size : new.size ≡ ring.size) (epoch : new.epoch ≡ ring.epoch)
+    (queued : new.queued + ring.closed ≡ ring.queued + new.closed) (a : Appended ring new pool (drop l.tail.written l.tail.blocks) bytes) where
+  pub appended : Appends l bytes a.blocks new.chain new.text
+  appended = record {
+    blocks = ring-closed l h ring region of new pool a.blocks is start size epoch queued a.holds a.goes_on;
+    joined = a.joined ∙ ap (λ (w : List ℕ). w ++ bytes) of.text;
+  }
+
+  pub appended-ring : IsRingOf (closed_log l a.blocks new.chain new.text) new pool
+  appended-ring = ring-of-closed l h ring region of new pool a.blocks is start size epoch queued a.holds a.goes_on
+
+-- ---- the unfinished block is closed
+
+padded-start : (ring : RingState) (text : List ℕ) → (padded_by ring text).start ≡ ring.start
+padded-start ring [] = refl
+padded-start ring (_ ∷ _) = refl
+
+padded-size : (ring : RingState) (text : List ℕ) → (padded_by ring text).size ≡ ring.size
+padded-size ring [] = refl
+padded-size ring (_ ∷ _) = refl
+
+padded-epoch : (ring : RingState) (text : List ℕ) → (padded_by ring text).epoch ≡ ring.epoch
+padded-epoch ring [] = refl
+padded-epoch ring (_ ∷ _) = refl
+
+padded-queued : (ring : RingState) (text : List ℕ) → (padded_by ring text).queued + ring.closed ≡ ring.queued + (padded_by ring text).closed
+padded-queued ring [] = refl
+padded-queued ring (_ ∷ _) = omega arith
+
+padding-goes_on : (ring : RingState) (text : List ℕ) → first_chain (padding_by ring text) (padded_by ring text).chain ≡ ring.chain
+padding-goes_on ring [] = refl
+padding-goes_on ring (_ ∷ _) = refl
+
+padding-text : (ring : RingState) (text : List ℕ) → texts (padding_by ring text) ++ (padded_by ring text).text ≡ ring.text
+padding-text ring [] = refl
+padding-text ring (_ ∷ _) = append-nil ((ring.text ++ []) ++ []) ∙ append-nil (ring.text ++ []) ∙ append-nil ring.text
+
+padded-text : (ring : RingState) (text : List ℕ) → ring.text ≡ text → (padded_by ring text).text ≡ []
+padded-text ring [] e = e
+padded-text ring (_ ∷ _) e = refl
+
+module _ (l : Log) (h : IsLog l) (ring : RingState) (region : Region) (of : IsRingOf l ring region)
+    (new : RingState) (pool : Region) (is : IsRing new) (e : new ≡ padded ring) (holds : HoldsQueue new pool (drop l.tail.written l.tail.blocks ++ padding ring)) where
+  padding-start : new.start ≡ ring.start
+  padding-start = ap (λ (x : RingState). x.start) e ∙ padded-start ring ring.text
+
+  padding-size : new.size ≡ ring.size
+  padding-size = ap (λ (x : RingState). x.size) e ∙ padded-size ring ring.text
+
+  padding-epoch : new.epoch ≡ ring.epoch
+  padding-epoch = ap (λ (x : RingState). x.epoch) e ∙ padded-epoch ring ring.text
+
+  padding-queued : new.queued + ring.closed ≡ ring.queued + new.closed
+  padding-queued = subst (λ (x : RingState). x.queued + ring.closed ≡ ring.queued + x.closed) (sym e) (padded-queued ring ring.text)
+
+  padding-on : first_chain (padding ring) new.chain ≡ ring.chain
+  padding-on = subst (λ (x : RingState). first_chain (padding ring) x.chain ≡ ring.chain) (sym e) (padding-goes_on ring ring.text)
+
+  pub padding-appends : Appends l [] (padding ring) new.chain new.text
+  padding-appends = record {
+    blocks = ring-closed l h ring region of new pool (padding ring) is padding-start padding-size padding-epoch padding-queued holds padding-on;
+    joined = subst (λ (x : RingState). texts (padding ring) ++ x.text ≡ ring.text) (sym e) (padding-text ring ring.text) ∙ of.text ∙ sym (append-nil l.tail.text);
+  }
+
+  pub padding-ring : IsRingOf (closed_log l (padding ring) new.chain new.text) new pool
+  padding-ring = ring-of-closed l h ring region of new pool (padding ring) is padding-start padding-size padding-epoch padding-queued holds padding-on
+
+-- the unfinished block holds nothing then
+pub padded-empty : (ring new : RingState) → new ≡ padded ring → new.text ≡ []
+padded-empty ring new e = ap (λ (x : RingState). x.text) e ∙ padded-text ring ring.text refl
+
+-- ---- the first block that is not written is written
+
+found-next : (t : Bool) (x s : ℕ) → (if t then Some x else None) ≡ Some s → x ≡ s
+found-next true x s e = same_Some x s e
+found-next false x s e = cc e
+
+not-found : (t : Bool) (x : ℕ) → t ≡ true → (if t then Some x else None) ≡ None → ⊥
+not-found true x is e = absurd (cc)
+not-found false x is e = absurd (cc)
+
+none-queued : (n x before : ℕ) → (if nat_lt 0 n && nat_lt x before then Some x else None) ≡ None → x < before → n ≡ 0
+none-queued n x before e lt = elim (cases_lt 0 n) [
+  | inl some ↦ absurd (not-found (nat_lt 0 n && nat_lt x before) x (and_from (nat_lt 0 n) (nat_lt x before) (lt-ltb 0 n some) (lt-ltb x before lt)) e)
+  | inr none ↦ omega (arith, none)
+]
+
+module _ (l : Log) (h : IsLog l) (ring : RingState) (region : Region) (of : IsRingOf l ring region) where
+  module _ (before sequence : ℕ) (next : next_block ring before ≡ Some sequence) where
+    some-queued : 0 < ring.queued
+    some-queued = next-waits ring before sequence next
+
+    sequence-same : number (first_place ring) ≡ sequence
+    sequence-same = found-next (nat_lt 0 ring.queued && nat_lt (number (first_place ring)) before) (number (first_place ring)) sequence next
+
+    -- there is one
+    pub next-queued : (q : Queued) × (slice_get l.tail.blocks l.tail.written ≡ Some q)
+    next-queued = elim (slice_get_cases l.tail.blocks l.tail.written).1 [
+      | inl some ↦ (some.0, some.2)
+      | inr none ↦ absurd (omega (arith, none.0, some-queued, waiting l h ring region of))
+    ]
+
+    pub next-lt : l.tail.written < length l.tail.blocks
+    next-lt = omega (arith, some-queued, waiting l h ring region of)
+
+    -- where it is written
+    pub next-place : block_at ring sequence ≡ place_in l.head.super.ring next-queued.0
+    next-place =
+        let at : next-queued.0.sequence ≡ number (l.head.place.sequence + l.tail.written) = sequence-linked (l.head.super.generation + 1) l.head.place.sequence l.tail.blocks l.tail.chain l.tail.written next-queued.0 h.tail.closed.linked next-queued.1 in
+        let same : sequence ≡ next-queued.0.sequence = sym sequence-same ∙ ap number (first-is l h ring region of) ∙ sym at in
+        ap (λ (n : ℕ). 2 + sequence % n) of.size ∙ ap (λ (n : ℕ). 2 + n % l.head.super.ring) same
+
+    -- and with what
+    pub next-bytes : first_bytes ring.epoch (drop l.tail.written l.tail.blocks) ≡ bytes_in (l.head.super.generation + 1) next-queued.0
+    next-bytes = ap (first_bytes ring.epoch) (drop-get l.tail.blocks l.tail.written next-queued.0 next-queued.1) ∙ ap (λ (n : ℕ). journal_block next-queued.0.sequence n next-queued.0.chain next-queued.0.text) of.epoch
+
+  drop-one : (n : ℕ) (xs : List Queued) → drop 1 (drop n xs) ≡ drop (n + 1) xs
+  drop-one zero xs = refl
+  drop-one (suc n) [] = let further : suc (n + 1) ≡ suc n + 1 = omega arith in ap (λ (k : ℕ). drop {A = Queued} k []) further
+  drop-one (suc n) (x ∷ xs) = let further : suc (n + 1) ≡ suc n + 1 = omega arith in drop-one n xs ∙ ap (λ (k : ℕ). drop k (x ∷ xs)) further
+
+  pub written-ring : (new : RingState) (pool : Region) → new ≡ without_first ring → HoldsQueue new pool (drop 1 (drop l.tail.written l.tail.blocks)) → IsRingOf (written_log l) new pool
+  written-ring new pool e holds = record {
+    sequence = ap (λ (x : RingState). x.start.sequence) e ∙ of.sequence;
+    size = ap (λ (x : RingState). x.size) e ∙ of.size;
+    epoch = ap (λ (x : RingState). x.epoch) e ∙ of.epoch;
+    closed = ap (λ (x : RingState). x.closed) e ∙ of.closed;
+    chain = ap (λ (x : RingState). x.chain) e ∙ of.chain;
+    text = ap (λ (x : RingState). x.text) e ∙ of.text;
+    queue = subst (HoldsQueue new pool) (drop-one l.tail.written l.tail.blocks) holds;
+  }
+
+  -- no block waits below a bound that is past all of them
+  pub none-waits : (before : ℕ) → next_block ring before ≡ None → number (first_place ring) < before → l.tail.written ≡ length l.tail.blocks
+  none-waits before none lt = omega (arith, none-queued ring.queued (number (first_place ring)) before none lt, waiting l h ring region of)
+
+  pub all-written : l.tail.written ≡ length l.tail.blocks → ring.text ≡ [] → IsWrittenOut l.tail
+  all-written all none = record { written = all; text = sym of.text ∙ none }
+
+-- a write at a place with bytes is one at an equal place with equal bytes
+pub made-as : (before after : ℕ) (last ok : Bool) (told now : Option DiskRecord) (at place : ℕ) (bytes block : List ℕ) (keeps : Type 0) → at ≡ place → bytes ≡ block
+    → MadeOrNot before after last ok (Writes told now at bytes ok) keeps → MadeOrNot before after last ok (Writes told now place block ok) keeps
+made-as before after last ok told now at place bytes block keeps e f h =
+    subst (λ (b : List ℕ). MadeOrNot before after last ok (Writes told now place b ok) keeps) f
+    (subst (λ (a : ℕ). MadeOrNot before after last ok (Writes told now a bytes ok) keeps) e h)
