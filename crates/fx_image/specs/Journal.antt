@@ -90,7 +90,8 @@ pub record IsReading (size base : ℕ) (super : Fields) (read : List StreamBlock
   pub room : HasSessionRoom super txns
 
 -- The record bytes of the blocks, with those of the unfinished one, are those of the commits.
-pub record AreRecords (base : ℕ) (blocks : List Queued) (text : List ℕ) (records : List (List PlainItem)) : Type 0 where
+pub record AreRecords (base : ℕ) (blocks : List Queued) (text : List ℕ)
+    (records : List (List PlainItem)) : Type 0 where
   pub each : All IsCommit records
   pub joined : texts blocks ++ text ≡ commits_bytes base records
 
@@ -100,7 +101,8 @@ pub record AreMarked (calls base : ℕ) (blocks : List Queued) (settled : ℕ) (
   pub few : marks ≤ length history
   pub first : SettledFirst marks history
   pub by_now : All (λ entry. entry.settled ≤ calls) history
-  pub whole : length (commits_bytes base (take marks records)) ≤ length (texts (take settled blocks))
+  pub whole : length (commits_bytes base (take marks records))
+      ≤ length (texts (take settled blocks))
 
 -- The commits are few, and each uses at most one more id and one more store.
 pub record AreFew (super : Fields) (txns : Transactions) (history : List Entry)
@@ -121,7 +123,8 @@ pub record IsJournal (j : Journal) (calls : ℕ) : Type 0 where
       j.commits.history j.commits.records j.commits.marks
   pub few : AreFew j.log.head.super j.opening.txns j.commits.history j.commits.records
   pub legal : Legal j.opening.tree j.opening.base j.commits.history
-  pub replays : Replays j.opening.tree j.opening.base j.opening.txns j.commits.history j.commits.records
+  pub replays : Replays j.opening.tree j.opening.base j.opening.txns
+      j.commits.history j.commits.records
 
 -- the lists of items that stand in a journal, the oldest first
 abbrev pub journal_lists : Journal → List (List PlainItem)

@@ -9,8 +9,8 @@ use Rattle.fx_log.specs.Log.{IsRingOf}
 use Rattle.fx_image.specs.Journal.{Journal, IsJournal, IsOnDisk}
 
 -- The journal after so many calls of a disk that tells this, with this ring, whose buffers lie in this region.
-pub record IsMounted (j : Journal) (calls : ℕ) (told : Option DiskRecord) (ring : RingState) (region : Region)
-    : Type 0 where
+pub record IsMounted (j : Journal) (calls : ℕ) (told : Option DiskRecord)
+    (ring : RingState) (region : Region) : Type 0 where
   pub journal : IsJournal j calls
   pub disk : IfSome told (IsOnDisk j)
   pub ring_is : IsRingOf j.log ring region

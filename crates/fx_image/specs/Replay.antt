@@ -22,14 +22,21 @@ pub record Replays (tree : Tree) (base : ℕ) (txns : Transactions) (history : L
     (records : List (List PlainItem)) : Type 0 where
   pub one_each : length records ≡ length history
   pub stands : (k : ℕ) → k ≤ length records →
-      StandsFor (after_all (lists_of txns ++ take k records)) (bare (tree_at tree history (base + k)))
+      StandsFor (after_all (lists_of txns ++ take k records))
+      (bare (tree_at tree history (base + k)))
 
 -- The items of a step that is done, where these are the next id and the next store: those of a new node
 -- below the node that the path above leads to, or that of the file that the path leads to.
-pub data AreItemsOf (m : ItemMap) (id store : ℕ) (step : Step) (items : List PlainItem) : Type 0 where
-  OfDirectory : (above : List (List ℕ)) (name : List ℕ) (parent node : NodeId) → step ≡ Mkdir (above ++ name ∷ []) → IsTrue (is_name name) → length above < MAX_NAMES
-      → node_at m above ≡ Some parent → IsNextNode parent node kinds.Dir id store → items ≡ new_items parent name node kinds.Dir → AreItemsOf m id store step items
-  OfFile : (above : List (List ℕ)) (name : List ℕ) (parent node : NodeId) → step ≡ Create (above ++ name ∷ []) → IsTrue (is_name name) → length above < MAX_NAMES
-      → node_at m above ≡ Some parent → IsNextNode parent node kinds.File id store → items ≡ new_items parent name node kinds.File → AreItemsOf m id store step items
-  OfWrite : (path : List (List ℕ)) (at : ℕ) (text : List ℕ) (node : NodeId) → step ≡ Write path at text
-      → node_at m path ≡ Some node → items ≡ written_items node → AreItemsOf m id store step items
+pub data AreItemsOf (m : ItemMap) (id store : ℕ) (step : Step) (items : List PlainItem)
+    : Type 0 where
+  OfDirectory : (above : List (List ℕ)) (name : List ℕ) (parent node : NodeId) →
+      step ≡ Mkdir (above ++ name ∷ []) → IsTrue (is_name name) → length above < MAX_NAMES →
+      node_at m above ≡ Some parent → IsNextNode parent node kinds.Dir id store →
+      items ≡ new_items parent name node kinds.Dir → AreItemsOf m id store step items
+  OfFile : (above : List (List ℕ)) (name : List ℕ) (parent node : NodeId) →
+      step ≡ Create (above ++ name ∷ []) → IsTrue (is_name name) → length above < MAX_NAMES →
+      node_at m above ≡ Some parent → IsNextNode parent node kinds.File id store →
+      items ≡ new_items parent name node kinds.File → AreItemsOf m id store step items
+  OfWrite : (path : List (List ℕ)) (at : ℕ) (text : List ℕ) (node : NodeId) →
+      step ≡ Write path at text → node_at m path ≡ Some node → items ≡ written_items node →
+      AreItemsOf m id store step items

@@ -38,7 +38,8 @@ kept f txns = f.base + length txns
 
 -- The image of a disk of so many blocks has this superblock chosen and these transactions in its journal,
 -- and stands for this tree.
-pub record IsImage (size : ℕ) (image : List (List ℕ)) (f : Fields) (txns : Transactions) (tree : Tree) : Type 0 where
+pub record IsImage (size : ℕ) (image : List (List ℕ)) (f : Fields) (txns : Transactions)
+    (tree : Tree) : Type 0 where
   pub chosen : ChoosesSuper f image
   pub blocks : f.blocks ≡ size
   pub layers : layers_of f ≡ []

@@ -20,31 +20,51 @@ ghost use Rattle.fx_image.specs.Replay.{AreItemsOf, Replays};
 ghost use Rattle.fx_image.specs.Standing.{IsImage, StandsFor, Transactions, items_after, lists_of};
 ghost use Rattle.fx_super.specs.Super.{Fields};
 
-/// What the items of commits make of an image begins with none, goes on by the items of a step that is done, and stays one where
-/// entries are settled. Transactions that keep its first commits stand for the tree after these. The
-/// items of a step are those of a record, and raise each next number by one at most.
+/// The items of commits replay a history: none replay the empty one, the items of a step that is done
+/// replay one entry more, and they still do where entries are settled. Transactions that keep the first
+/// commits stand for the tree after these. The items of a step are those of a record, and raise each
+/// next number by one at most.
 pub fn replay_laws()
-    ensures none { (tree : Tree) (base : ℕ) (txns : Transactions) → StandsFor (items_after txns) tree → tree ≡ bare tree → Replays tree base txns [] [] }
-    ensures step { (tree : Tree) (base : ℕ) (txns : Transactions) (history : List Entry) (records : List (List PlainItem)) (e : Entry) (step : Step) (items : List PlainItem) (id store : ℕ) (answer : Answer) →
-        Replays tree base txns history records → Legal tree base history → e.number ≡ base + length history + 1 → e.steps ≡ step ∷ [] →
+    ensures none { (tree : Tree) (base : ℕ) (txns : Transactions) →
+        StandsFor (items_after txns) tree → tree ≡ bare tree → Replays tree base txns [] [] }
+    ensures step { (tree : Tree) (base : ℕ) (txns : Transactions)
+        (history : List Entry) (records : List (List PlainItem))
+        (e : Entry) (step : Step) (items : List PlainItem) (id store : ℕ) (answer : Answer) →
+        Replays tree base txns history records → Legal tree base history →
+        e.number ≡ base + length history + 1 → e.steps ≡ step ∷ [] →
         (do_step (tree_at tree history (base + length history)) step).0 ≡ Ok answer →
-        IsBelow (after_all (lists_of txns ++ records)) id store → AreItemsOf (after_all (lists_of txns ++ records)) id store step items →
+        IsBelow (after_all (lists_of txns ++ records)) id store →
+        AreItemsOf (after_all (lists_of txns ++ records)) id store step items →
         Replays tree base txns (history ++ e ∷ []) (records ++ items ∷ []) }
-    ensures settled { (tree : Tree) (base : ℕ) (txns : Transactions) (history : List Entry) (records : List (List PlainItem)) (calls : ℕ) → Replays tree base txns history records → Replays tree base txns (settle calls history) records }
-    ensures keeps { (tree : Tree) (base : ℕ) (txns more : Transactions) (history : List Entry) (records : List (List PlainItem)) (k : ℕ) → Replays tree base txns history records →
-        k ≤ length records → lists_of more ≡ take k records → StandsFor (items_after (txns ++ more)) (bare (tree_at tree history (base + k))) }
-    ensures items { (m : ItemMap) (step : Step) (items : List PlainItem) (id store : ℕ) → IsBelow m id store → id < 2 ^ 64 → store < 2 ^ 32 → AreItemsOf m id store step items → All IsItem items }
-    ensures ascending { (m : ItemMap) (step : Step) (items : List PlainItem) (id store : ℕ) → IsBelow m id store → AreItemsOf m id store step items → IsTrue (is_ascending items) }
-    ensures rise { (m : ItemMap) (step : Step) (items : List PlainItem) (id store : ℕ) → IsBelow m id store → AreItemsOf m id store step items → (next_id id items ≤ id + 1) × (next_store store items ≤ store + 1) }
+    ensures settled { (tree : Tree) (base : ℕ) (txns : Transactions)
+        (history : List Entry) (records : List (List PlainItem)) (calls : ℕ) →
+        Replays tree base txns history records →
+        Replays tree base txns (settle calls history) records }
+    ensures keeps { (tree : Tree) (base : ℕ) (txns more : Transactions)
+        (history : List Entry) (records : List (List PlainItem)) (k : ℕ) →
+        Replays tree base txns history records →
+        k ≤ length records → lists_of more ≡ take k records →
+        StandsFor (items_after (txns ++ more)) (bare (tree_at tree history (base + k))) }
+    ensures items { (m : ItemMap) (step : Step) (items : List PlainItem) (id store : ℕ) →
+        IsBelow m id store → id < 2 ^ 64 → store < 2 ^ 32 → AreItemsOf m id store step items →
+        All IsItem items }
+    ensures ascending { (m : ItemMap) (step : Step) (items : List PlainItem) (id store : ℕ) →
+        IsBelow m id store → AreItemsOf m id store step items → IsTrue (is_ascending items) }
+    ensures rise { (m : ItemMap) (step : Step) (items : List PlainItem) (id store : ℕ) →
+        IsBelow m id store → AreItemsOf m id store step items →
+        (next_id id items ≤ id + 1) × (next_store store items ≤ store + 1) }
 {}
 
 /// An image stands for one tree at most: it has one superblock chosen, one list of transactions, and one
 /// tree that these make.
 pub fn image_laws()
-    ensures superblock { (size : ℕ) (image : List (List ℕ)) (f g : Fields) (xs ys : Transactions) (t u : Tree) →
+    ensures superblock { (size : ℕ) (image : List (List ℕ)) (f g : Fields)
+        (xs ys : Transactions) (t u : Tree) →
         IsImage size image f xs t → IsImage size image g ys u → f ≡ g }
-    ensures transactions { (size : ℕ) (image : List (List ℕ)) (f g : Fields) (xs ys : Transactions) (t u : Tree) →
+    ensures transactions { (size : ℕ) (image : List (List ℕ)) (f g : Fields)
+        (xs ys : Transactions) (t u : Tree) →
         IsImage size image f xs t → IsImage size image g ys u → xs ≡ ys }
-    ensures tree { (size : ℕ) (image : List (List ℕ)) (f g : Fields) (xs ys : Transactions) (t u : Tree) →
+    ensures tree { (size : ℕ) (image : List (List ℕ)) (f g : Fields)
+        (xs ys : Transactions) (t u : Tree) →
         IsImage size image f xs t → IsImage size image g ys u → t ≡ u }
 {}

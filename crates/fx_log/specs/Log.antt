@@ -76,13 +76,15 @@ pub record IsWrittenOut (tail : LogTail) : Type 0 where
 -- unfinished block.
 pub record Appends (log : Log) (bytes : List ℕ) (closed : List Queued) (chain : ℕ) (text : List ℕ)
     : Type 0 where
-  pub blocks : AreClosed log.head.super log.head.read log.head.place (log.tail.blocks ++ closed) chain
+  pub blocks : AreClosed log.head.super log.head.read log.head.place
+      (log.tail.blocks ++ closed) chain
   pub joined : texts closed ++ text ≡ log.tail.text ++ bytes
 
 -- ---- what a log keeps
 
 -- What was read fits together, on a disk of so many blocks.
-pub record IsHead (size : ℕ) (super : Fields) (read : List StreamBlock) (place : Start) : Type 0 where
+pub record IsHead (size : ℕ) (super : Fields) (read : List StreamBlock) (place : Start)
+    : Type 0 where
   pub rules : KeepsRules super
   pub blocks : super.blocks ≡ size
   pub series : IsSeries super.generation (start_of super) read place

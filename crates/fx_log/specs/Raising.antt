@@ -25,4 +25,5 @@ pub record ChoosesSince (from : ℕ) (r : DiskRecord) : Type 0 where
 
 -- Every image left now has that of the next generation chosen.
 abbrev pub ChoosesNext : ℕ → DiskRecord → Type 0
-ChoosesNext from r = (f : Fields) → BeginsAt r from f → (image : List (List ℕ)) → LeftNow r image → ChoosesSuper (next_generation f) image
+ChoosesNext from r = (f : Fields) → BeginsAt r from f → (image : List (List ℕ)) → LeftNow r image →
+    ChoosesSuper (next_generation f) image

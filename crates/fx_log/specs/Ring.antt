@@ -14,7 +14,8 @@ use Rattle.fx_disk.specs.Began.{BeganAs}
 
 -- The disk began as an image in which this superblock is chosen, that of a disk of its size. These blocks
 -- are the stream then, and `place` is the one after them.
-pub record BeganWith (r : DiskRecord) (from : ℕ) (f : Fields) (image : List (List ℕ)) (read : List StreamBlock) (place : Start) : Type 0 where
+pub record BeganWith (r : DiskRecord) (from : ℕ) (f : Fields) (image : List (List ℕ))
+    (read : List StreamBlock) (place : Start) : Type 0 where
   pub begins : BeganAs r from image
   pub chosen : ChoosesSuper f image
   pub blocks : f.blocks ≡ length r.entry
@@ -42,7 +43,8 @@ pub record HasRecords (q : Queued) : Type 0 where
 -- The blocks were closed after those that were read: they follow each other from the place on, under the
 -- next generation, and the ring has a place for each. The chain is the one after them. Their numbers lie
 -- below those where numbers stand still.
-pub record AreClosed (f : Fields) (read : List StreamBlock) (place : Start) (blocks : List Queued) (chain : ℕ) : Type 0 where
+pub record AreClosed (f : Fields) (read : List StreamBlock) (place : Start) (blocks : List Queued)
+    (chain : ℕ) : Type 0 where
   pub records : All HasRecords blocks
   pub first : first_chain blocks chain ≡ place.chain
   pub linked : IsLinked (f.generation + 1) place.sequence blocks chain
@@ -52,29 +54,40 @@ pub record AreClosed (f : Fields) (read : List StreamBlock) (place : Start) (blo
 -- Since the cell `before` the block was written with no other bytes than these, and it may hold these or
 -- what it held before.
 pub record IsTried (before now : Cell) (bytes : List ℕ) : Type 0 where
-  pub held : (value : List ℕ) → Contains (candidates now) value → Contains (before.bytes ∷ bytes ∷ []) value
-  pub since : (value : List ℕ) → Contains (drop (length before.written) now.written) value → value ≡ bytes
+  pub held : (value : List ℕ) → Contains (candidates now) value →
+      Contains (before.bytes ∷ bytes ∷ []) value
+  pub since : (value : List ℕ) → Contains (drop (length before.written) now.written) value →
+      value ≡ bytes
 
 -- The disk block is none of those where the blocks stand.
 abbrev pub IsElsewhere : ℕ → List Queued → ℕ → Type 0
-IsElsewhere ring blocks b = (i : ℕ) (q : Queued) → slice_get blocks i ≡ Some q → place_in ring q ≡ b → ⊥
+IsElsewhere ring blocks b = (i : ℕ) (q : Queued) → slice_get blocks i ≡ Some q →
+    place_in ring q ≡ b → ⊥
 
 -- Since the first calls no disk block of the ring was written but those of the closed blocks, each of these
 -- with its own bytes alone. The first `written` of them were written by good writes, and the first
 -- `settled` were flushed since.
-pub record RingHolds (r : DiskRecord) (from ring epoch : ℕ) (blocks : List Queued) (written settled : ℕ) : Type 0 where
+pub record RingHolds (r : DiskRecord) (from ring epoch : ℕ) (blocks : List Queued)
+    (written settled : ℕ) : Type 0 where
   pub since : from ≤ length r.calls
   pub fewer : settled ≤ written
   pub most : written ≤ length blocks
-  pub others : (b : ℕ) → 2 ≤ b → b < ring + 2 → IsElsewhere ring blocks b → cell_now r b ≡ cell_after r from b
-  pub tried : (i : ℕ) (q : Queued) → slice_get blocks i ≡ Some q → IsTried (cell_after r from (place_in ring q)) (cell_now r (place_in ring q)) (bytes_in epoch q)
-  pub good : (i : ℕ) (q : Queued) → slice_get blocks i ≡ Some q → i < written → IsGoodWrite (place_in ring q) (bytes_in epoch q) r
-  pub fixed : (i : ℕ) (q : Queued) → slice_get blocks i ≡ Some q → i < settled → (cell_now r (place_in ring q)).loose ≡ false
+  pub others : (b : ℕ) → 2 ≤ b → b < ring + 2 → IsElsewhere ring blocks b →
+      cell_now r b ≡ cell_after r from b
+  pub tried : (i : ℕ) (q : Queued) → slice_get blocks i ≡ Some q →
+      IsTried (cell_after r from (place_in ring q)) (cell_now r (place_in ring q))
+      (bytes_in epoch q)
+  pub good : (i : ℕ) (q : Queued) → slice_get blocks i ≡ Some q → i < written →
+      IsGoodWrite (place_in ring q) (bytes_in epoch q) r
+  pub fixed : (i : ℕ) (q : Queued) → slice_get blocks i ≡ Some q → i < settled →
+      (cell_now r (place_in ring q)).loose ≡ false
 
 -- The stream of the image is what was read and then the first of the closed blocks, at least the settled ones.
-pub record KeepsStream (image : List (List ℕ)) (f : Fields) (read : List StreamBlock) (blocks : List Queued) (settled : ℕ) : Type 0 where
+pub record KeepsStream (image : List (List ℕ)) (f : Fields) (read : List StreamBlock)
+    (blocks : List Queued) (settled : ℕ) : Type 0 where
   pub count : ℕ
   pub least : settled ≤ count
   pub most : count ≤ length blocks
   pub next : Start
-  pub stream : IsStream image f.ring (f.generation + 1) (start_of f) (read ++ as_stream (f.generation + 1) (take count blocks)) next
+  pub stream : IsStream image f.ring (f.generation + 1) (start_of f)
+      (read ++ as_stream (f.generation + 1) (take count blocks)) next
