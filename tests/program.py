@@ -1,4 +1,5 @@
 """Checks of the built program: what it prints and the status that it ends with, on real streams."""
+import fcntl
 import os
 import shutil
 import subprocess
@@ -118,6 +119,37 @@ def file_that_cannot_be_written():
         return (done.returncode, done.stdout, done.stderr), (12, b"", b"fxfs: image\n")
 
 
+def image_that_is_held():
+    """An image is refused while another open file holds it, and a running program holds its own to its end."""
+    with tempfile.TemporaryDirectory() as folder:
+        image = os.path.join(folder, "disk.img")
+        with open(image, "w+b") as disk:
+            disk.truncate(8 << 20)
+            got = []
+            for lock in (fcntl.LOCK_EX, fcntl.LOCK_SH, fcntl.LOCK_UN):
+                fcntl.flock(disk, lock)
+                got += [run([image, "mkfs"])]
+            first = subprocess.Popen([PROGRAM, image, "shell"], stdin=subprocess.PIPE, stdout=subprocess.PIPE)
+            while is_free(disk):
+                time.sleep(0.01)
+            got += [run([image, "shell"], b"mkdir /b\n")]
+            got += [first.communicate(b"mkdir /a\n", timeout=120)[0], first.returncode]
+        got += [run([image, "shell"], b"mkdir /a\n")]
+    refused = (12, b"", b"fxfs: image\n")
+    want = [refused, refused, (0, b"mkfs 2048 256\n", b""), refused, b"1 1 ok 1\n", 0, (0, b"1 1 err 1 1 exists\n", b"")]
+    return got, want
+
+
+def is_free(file):
+    """Whether no other open file holds it."""
+    try:
+        fcntl.flock(file, fcntl.LOCK_SH | fcntl.LOCK_NB)
+    except BlockingIOError:
+        return False
+    fcntl.flock(file, fcntl.LOCK_UN)
+    return True
+
+
 def standard_error_that_fails():
     with open("/dev/full", "wb") as full:
         return run(["/nowhere/disk.img", "shell"], stderr=full)[0], 12
@@ -194,7 +226,7 @@ def input_of_the_greatest_length_and_one_more():
 CHECKS = [
     example, empty_script, last_line_without_a_line_feed, wrong_line_runs_nothing, words_that_are_no_command,
     no_command, images_that_are_none, formatted_file, ring_of_a_file, file_that_is_too_small, blank_file,
-    superblocks_of_a_file, file_that_cannot_be_written, standard_error_that_fails, smallest_and_greatest_image, standard_input_that_fails,
+    superblocks_of_a_file, file_that_cannot_be_written, image_that_is_held, standard_error_that_fails, smallest_and_greatest_image, standard_input_that_fails,
     standard_output_that_fails, streams_that_are_closed, reader_that_goes_away, input_of_the_greatest_length_and_one_more,
 ]
 

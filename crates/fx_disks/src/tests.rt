@@ -1,3 +1,6 @@
+ghost use Rattle.std.specs.Prelude.{◌<◌, is_ok};
+ghost use Rattle.fx_disk.specs.Seen.{HasCalled};
+
 use super::*;
 use fx_disk::{Disk, DiskFailed};
 use std::alloc::{AllocError, Global};
@@ -322,5 +325,29 @@ fn writes_nothing_after_a_failed_sync(rt: HostRuntime) -> Result<(), Fail> {
     assert_eq!(rt; (disk.calls(), disk.faults()), (2, 3));
     assert_eq!(rt; bytes_at(&mut disk, 1), Ok((0, 0)));
     assert_eq!(rt; (disk.reads(), disk.faults()), (1, 3));
+    Ok(())
+}
+
+/// Writes a block and flushes.
+#[tactic(auto, using(fx_disk::proofs::Frames::write_called, fx_disk::proofs::Frames::flush_called, fx_disk::proofs::Frames::called_then))]
+fn write_through<D: Disk>(disk: &mut D, at: u32, bytes: &[u8; 4096]) -> Result<(), DiskFailed>
+    requires { at < (D.seen disk.old).size }
+    ensures disk { HasCalled (D.seen disk.old) (D.seen disk.new) (is_ok result) }
+{
+    let Ok(()) = disk.write(at, bytes) else {
+        return Err(DiskFailed);
+    };
+    disk.flush()
+}
+
+#[test]
+fn stops_at_the_first_failure(rt: HostRuntime) -> Result<(), Fail> {
+    let mut disk = MemDisk::new(rt.alloc(), 2)?;
+    disk.fail_calls([3].to_vec(rt.alloc())?);
+    if disk.blocks() > 1 {
+        assert_eq!(rt; write_through(&mut disk, 1, &block(5)), Ok(()));
+        assert_eq!(rt; write_through(&mut disk, 0, &block(6)), Err(DiskFailed));
+    }
+    assert_eq!(rt; (disk.calls(), disk.faults()), (3, 1));
     Ok(())
 }
