@@ -6,6 +6,7 @@ use Rattle.fx_sum.specs.Checksum.{fletch}
 use Rattle.fx_jblock.specs.Block.{body, Holds}
 use Rattle.fx_jblock.specs.declared.Start.{Start}
 use Rattle.fx_jblock.specs.declared.TheConstants.{RECORD_BYTES}
+use Rattle.fx_super.specs.declared.superblock.TheConstants.{MIN_RING, MAX_RING}
 use Rattle.fx_pool.specs.Region.{Region, Run, IsSound, IsOut, bytes_of}
 
 -- A ring of `size` blocks. `closed` counts the blocks from the start up to the unfinished one, and the
@@ -55,11 +56,16 @@ first_place ring = next_place ring - ring.queued
 
 -- the place of the unfinished block, as the beginning of a stream
 abbrev pub place_after : RingState → Start
-place_after ring = record { sequence = number (next_place ring); chain = ring.chain; floor = ring.epoch }
+place_after ring = record {
+  sequence = number (next_place ring);
+  chain = ring.chain;
+  floor = ring.epoch;
+}
 
 -- the unfinished block as it would be closed with these further bytes
 abbrev pub unfinished : RingState → List ℕ → Queued
-unfinished ring piece = record { sequence = number (next_place ring); chain = ring.chain; text = ring.text ++ piece }
+unfinished ring piece =
+    record { sequence = number (next_place ring); chain = ring.chain; text = ring.text ++ piece }
 
 abbrev pub chain_after : ℕ → Queued → ℕ
 chain_after epoch q = fletch q.chain (body q.sequence epoch q.text)
@@ -93,7 +99,8 @@ padding ring = padding_by ring ring.text
 -- the first block that is not written, if there is one and its sequence number lies below the bound
 abbrev pub next_block : RingState → ℕ → Option ℕ
 next_block ring before =
-    if nat_lt 0 ring.queued && nat_lt (number (first_place ring)) before then Some (number (first_place ring)) else None
+    if nat_lt 0 ring.queued && nat_lt (number (first_place ring)) before
+    then Some (number (first_place ring)) else None
 
 -- the ring after its first block that was not written has left the queue
 abbrev pub without_first : RingState → RingState
@@ -117,8 +124,8 @@ without_before ring sequence = record ring {
 
 -- What every ring keeps. Each block that is live or promised has a place of its own in the ring.
 pub record IsRing (ring : RingState) : Type 0 where
-  pub least : 256 ≤ ring.size
-  pub most : ring.size ≤ 1024
+  pub least : MIN_RING ≤ ring.size
+  pub most : ring.size ≤ MAX_RING
   pub epoch_begun : 1 ≤ ring.epoch
   pub unfinished_room : length ring.text < RECORD_BYTES
   pub own_places : ring.closed + begun ring.text + ring.promised ≤ ring.size
@@ -171,7 +178,8 @@ first_chain (q ∷ _) chain = q.chain
 abbrev pub IsLinked : ℕ → ℕ → List Queued → ℕ → Type 0
 IsLinked epoch place [] chain = Unit {0}
 IsLinked epoch place (q ∷ qs) chain =
-    (q.sequence ≡ number place) × (first_chain qs chain ≡ chain_after epoch q) × IsLinked epoch (place + 1) qs chain
+    (q.sequence ≡ number place) × (first_chain qs chain ≡ chain_after epoch q) ×
+    IsLinked epoch (place + 1) qs chain
 
 -- the buffers hold the blocks, in their order
 abbrev pub AreHeld : Region → ℕ → List Run → List Queued → Type 0
@@ -195,7 +203,8 @@ IsFilled q = length q.text ≡ RECORD_BYTES
 
 -- The record bytes were appended: full blocks were closed, which go on from the chain before, and they and
 -- what is left in the unfinished block are what that held before and then the record bytes.
-pub record Appended (old new : RingState) (region : Region) (queue : List Queued) (bytes : List ℕ) : Type 0 where
+pub record Appended (old new : RingState) (region : Region) (queue : List Queued)
+    (bytes : List ℕ) : Type 0 where
   pub blocks : List Queued
   pub filled : All IsFilled blocks
   pub goes_on : first_chain blocks new.chain ≡ old.chain

@@ -4,11 +4,12 @@ use Rattle.fx_sum.specs.Checksum.{fletch}
 use Rattle.fx_jblock.specs.Block.{body, Continues}
 use Rattle.fx_jblock.specs.declared.TheConstants.{RECORD_BYTES}
 use Rattle.fx_jblock.specs.declared.Start.{Start}
+use Rattle.fx_super.specs.declared.superblock.TheConstants.{RING_AT}
 use Rattle.fx_journal.specs.declared.stream.StreamBlock.{StreamBlock}
 
--- The ring begins at block 2 of the disk, and its blocks are used in turn.
+-- The ring lies behind the two superblocks, and its blocks are used in turn.
 abbrev pub place_of : ℕ → ℕ → ℕ
-place_of ring sequence = 2 + sequence % ring
+place_of ring sequence = RING_AT + sequence % ring
 
 -- the bytes that a disk of these contents holds for a sequence
 abbrev pub bytes_for : List (List ℕ) → ℕ → ℕ → List ℕ
@@ -23,25 +24,32 @@ place_after place block = record {
 }
 
 -- The bytes are this block, and it continues the stream at this place.
-pub record StandsAs (bytes : List ℕ) (generation : ℕ) (place : Start) (block : StreamBlock) : Type 0 where
-  pub sequence : block.sequence ≡ place.sequence
-  pub continues : Continues bytes place.sequence place.floor generation place.chain block.epoch block.records
+pub record StandsAs (bytes : List ℕ) (generation : ℕ) (place : Start) (block : StreamBlock) : Type 0
+  where
+    pub sequence : block.sequence ≡ place.sequence
+    pub continues : Continues bytes place.sequence place.floor generation place.chain block.epoch
+        block.records
 
 -- The block stands in the ring for this place.
 abbrev pub StandsAt : List (List ℕ) → ℕ → ℕ → Start → StreamBlock → Type 0
-StandsAt contents ring generation place block = StandsAs (bytes_for contents ring place.sequence) generation place block
+StandsAt contents ring generation place block =
+    StandsAs (bytes_for contents ring place.sequence) generation place block
 
 -- The blocks continue each other in the ring, from the start to the place that is next.
 abbrev pub IsRun : List (List ℕ) → ℕ → ℕ → Start → List StreamBlock → Start → Type 0
 IsRun contents ring generation start [] next = next ≡ start
 IsRun contents ring generation start (block ∷ blocks) next =
-    StandsAt contents ring generation start block × IsRun contents ring generation (place_after start block) blocks next
+    StandsAt contents ring generation start block ×
+    IsRun contents ring generation (place_after start block) blocks next
 
 -- The stream is the longest run of at most as many blocks as the ring has.
-pub record IsStream (contents : List (List ℕ)) (ring generation : ℕ) (start : Start) (blocks : List StreamBlock) (next : Start) : Type 0 where
+pub record IsStream (contents : List (List ℕ)) (ring generation : ℕ) (start : Start)
+    (blocks : List StreamBlock) (next : Start) : Type 0 where
   pub run : IsRun contents ring generation start blocks next
   pub few : length blocks ≤ ring
-  pub longest : (others : List StreamBlock) (place : Start) → IsRun contents ring generation start others place → length others ≤ ring → length others ≤ length blocks
+  pub longest : (others : List StreamBlock) (place : Start) →
+      IsRun contents ring generation start others place → length others ≤ ring →
+      length others ≤ length blocks
 
 -- The block may stand at this place of some stream.
 pub record MayFollow (generation : ℕ) (place : Start) (block : StreamBlock) : Type 0 where
@@ -60,10 +68,13 @@ IsSeries generation start (block ∷ blocks) next =
 
 -- What is found in the bytes for a place: the block that stands there, with the place after it, or none.
 abbrev pub IsNext : List ℕ → ℕ → Start → Option (StreamBlock × Start) → Type 0
-IsNext bytes generation place None = (block : StreamBlock) → StandsAs bytes generation place block → ⊥
-IsNext bytes generation place (Some found) = StandsAs bytes generation place found.0 × (found.1 ≡ place_after place found.0)
+IsNext bytes generation place None = (block : StreamBlock) → StandsAs bytes generation place block →
+    ⊥
+IsNext bytes generation place (Some found) = StandsAs bytes generation place found.0 ×
+    (found.1 ≡ place_after place found.0)
 
 -- Two disks hold the same in the ring.
 abbrev pub SameRing : ℕ → List (List ℕ) → List (List ℕ) → Type 0
 SameRing ring contents others =
-    (at : ℕ) → 2 ≤ at → at < ring + 2 → slice_index_or contents at [] ≡ slice_index_or others at []
+    (at : ℕ) → RING_AT ≤ at → at < ring + RING_AT →
+    slice_index_or contents at [] ≡ slice_index_or others at []

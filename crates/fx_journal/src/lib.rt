@@ -10,10 +10,12 @@ mod stream;
 mod walker;
 
 pub use fx_item::Full;
-pub use place::{FIRST_BLOCK, block_number};
+pub use place::block_number;
 pub use ring::{Ring, Wrote};
 pub use stream::{Blocks, Stream, StreamBlock, WalkFault};
 pub use walker::walk;
 
+#[cfg(test)]
+mod fake;
 #[cfg(test)]
 mod walk_tests;

@@ -2,16 +2,15 @@
 ghost use Rattle.std.specs.Prelude.{◌≡◌, ◌+◌, ◌<◌, ◌≤◌, ◌^◌};
 ghost use Rattle.fx_journal.specs.Stream.{place_of};
 
-/// The first block of the ring. The superblocks stand before it.
-pub const FIRST_BLOCK: u32 = 2;
+use fx_super::RING_AT;
 
 /// The number of the disk's block for this sequence, in a ring of so many blocks: its blocks are used
 /// in turn.
 pub fn block_number(ring: u32, sequence: u64) -> u32
     requires filled { 1 ≤ ring }
-    requires room { ring + 2 ≤ 2 ^ 32 }
+    requires room { ring + RING_AT ≤ 2 ^ 32 }
     ensures place { result ≡ place_of ring sequence }
-    ensures within { result < ring + 2 }
+    ensures within { result < ring + RING_AT }
 {
-    FIRST_BLOCK + (sequence % u64::from(ring)) as u32
+    RING_AT + (sequence % u64::from(ring)) as u32
 }

@@ -10,6 +10,7 @@ use fx_disk::{Disk, DiskFailed};
 use fx_item::Full;
 use fx_jblock::{RECORD_BYTES, Start};
 use fx_pool::{Buf, Pool};
+use fx_super::{MAX_RING, MIN_RING, RING_AT};
 use std::alloc::{AllocError, Global};
 use std::collections::VecDeque;
 use std::marker::Model;
@@ -51,9 +52,30 @@ impl Model for Ring {
 
     ghost Value = { RingState };
 
-    ghost view = { λ r. record { start = r.start; size = r.size; epoch = r.epoch; closed = r.closed; chain = r.chain; text = r.text.items; promised = r.promised; queued = r.queued; buffers = r.buffers.items } };
+    ghost view = { λ r. record {
+      start = r.start;
+      size = r.size;
+      epoch = r.epoch;
+      closed = r.closed;
+      chain = r.chain;
+      text = r.text.items;
+      promised = r.promised;
+      queued = r.queued;
+      buffers = r.buffers.items;
+    } };
 
-    ghost invariant = { λ r. IsRing (record { start = r.start; size = r.size; epoch = r.epoch; closed = r.closed; chain = r.chain; text = r.text.items; promised = r.promised; queued = r.queued; buffers = r.buffers.items })
+    ghost invariant = { λ r. IsRing
+        (record {
+          start = r.start;
+          size = r.size;
+          epoch = r.epoch;
+          closed = r.closed;
+          chain = r.chain;
+          text = r.text.items;
+          promised = r.promised;
+          queued = r.queued;
+          buffers = r.buffers.items;
+        })
         × (RECORD_BYTES ≤ vec_capacity r.text) × (r.size ≤ deque_capacity r.buffers) };
 }
 
@@ -87,8 +109,8 @@ impl Ring {
         next: Start,
         epoch: u64,
     ) -> Result<Ring, AllocError>
-        requires least { 256 ≤ ring }
-        requires most { ring ≤ 1024 }
+        requires least { MIN_RING ≤ ring }
+        requires most { ring ≤ MAX_RING }
         requires fits { closed ≤ ring }
         requires low { start.sequence < 2 ^ 62 }
         requires next { next.sequence ≡ start.sequence + closed }
@@ -321,20 +343,23 @@ impl Ring {
         disk: &mut D,
         before: u64,
     ) -> Result<Wrote, DiskFailed>
-        requires disk { self.old.size + 2 ≤ (D.seen disk.old).size }
+        requires disk { self.old.size + RING_AT ≤ (D.seen disk.old).size }
         requires buffers { KeepsBuffers self.old.buffers pool.old }
         ensures answer { IfOk result (λ w. w ≡ wrote (next_block self.old before)) }
         ensures nothing { next_block self.old before ≡ None → (result ≡ Ok (wrote None))
             × (self.new ≡ self.old) × (pool.new ≡ pool.old) × (disk.new ≡ disk.old) }
 
         // Where there is such a block, its bytes are written to its place by one call.
-        ensures made { (sequence : ℕ) (queue : List Queued) → next_block self.old before ≡ Some sequence
+        ensures made { (sequence : ℕ) (queue : List Queued) →
+            next_block self.old before ≡ Some sequence
             → HoldsQueue self.old pool.old queue → HasWritten (D.seen disk.old) (D.seen disk.new)
             (block_at self.old sequence) (first_bytes self.old.epoch queue) (is_ok result) }
         ensures written { (sequence : ℕ) → next_block self.old before ≡ Some sequence
             → OnOk result (self.new ≡ without_first self.old) }
-        ensures queue { (sequence : ℕ) (queue : List Queued) → next_block self.old before ≡ Some sequence
-            → HoldsQueue self.old pool.old queue → OnOk result (HoldsQueue self.new pool.new (drop 1 queue)) }
+        ensures queue { (sequence : ℕ) (queue : List Queued) →
+            next_block self.old before ≡ Some sequence
+            → HoldsQueue self.old pool.old queue →
+            OnOk result (HoldsQueue self.new pool.new (drop 1 queue)) }
 
         // A fault is the disk's, and leaves all else as it was.
         ensures fault { OnErr result ((self.new ≡ self.old) × (pool.new ≡ pool.old)) }

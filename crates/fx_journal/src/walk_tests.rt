@@ -1,6 +1,6 @@
 use super::*;
+use crate::fake::FakeDisk;
 use fx_disk::Disk;
-use fx_disks::{Image, MemDisk};
 use fx_jblock::{Start, pack};
 use std::alloc::{AllocError, Global};
 use std::test::Fail;
@@ -66,13 +66,6 @@ fn put_all(blocks: &mut [[u8; 4096]], digits: &str) {
     }
 }
 
-fn disk_of(alloc: Global, blocks: Vec<[u8; 4096]>) -> Option<MemDisk> {
-    if blocks.len() > 1000 {
-        return None;
-    }
-    Some(MemDisk::from_image(alloc, Image::from_blocks(blocks)))
-}
-
 /// Walks where the disk has the ring.
 fn walk_on<D: Disk>(
     alloc: Global,
@@ -88,7 +81,7 @@ fn walk_on<D: Disk>(
 
 /// The epochs of the stream that stands in the ring of four blocks.
 fn epochs_in(alloc: Global, blocks: Vec<[u8; 4096]>) -> Result<Vec<u8>, Fail> {
-    let mut disk = disk_of(alloc, blocks).ok_or("small")?;
+    let mut disk = FakeDisk::of(blocks, 0, 0).ok_or("small")?;
     let stream = walk_on(alloc, &mut disk, START, 4)?.ok_or("walked")?;
     let mut epochs = Vec::new(alloc);
     for block in stream.blocks.as_slice() {
@@ -189,7 +182,7 @@ fn full_ring(alloc: Global) -> Result<(Vec<[u8; 4096]>, Start), AllocError> {
 #[test]
 fn reads_a_full_ring(rt: HostRuntime) -> Result<(), Fail> {
     let (blocks, place) = full_ring(rt.alloc())?;
-    let mut disk = disk_of(rt.alloc(), blocks).ok_or("small")?;
+    let mut disk = FakeDisk::of(blocks, 0, 0).ok_or("small")?;
     let stream = walk_on(rt.alloc(), &mut disk, START, 256)?.ok_or("walked")?;
     assert_eq!(rt; stream.blocks.len(), 256);
     assert_eq!(rt; stream.next, place);
@@ -197,11 +190,10 @@ fn reads_a_full_ring(rt: HostRuntime) -> Result<(), Fail> {
 }
 
 /// A disk whose third read fails, with three blocks in the stream.
-fn failing_disk(alloc: Global) -> Result<MemDisk, Fail> {
+fn failing_disk(alloc: Global) -> Result<FakeDisk, Fail> {
     let mut blocks = zeros(alloc, 6)?;
     put_all(&mut blocks, "233");
-    let mut disk = disk_of(alloc, blocks).ok_or("small")?;
-    disk.fail_reads([3].to_vec(alloc)?);
+    let disk = FakeDisk::of(blocks, 0, 3).ok_or("small")?;
     Ok(disk)
 }
 

@@ -10,6 +10,7 @@ use crate::stream::{Blocks, Stream, StreamBlock, WalkFault};
 use fx_disk::Disk;
 use fx_item::Bytes;
 use fx_jblock::{Fit, HEADER_BYTES, Start, fits};
+use fx_super::RING_AT;
 use std::alloc::{AllocError, Global};
 
 /// Reads the stream from the start on: the longest list of at most `ring` blocks that continue each
@@ -26,7 +27,7 @@ pub fn walk<D: Disk>(
     generation: u64,
 ) -> Result<Stream, WalkFault>
     requires filled { 1 ≤ ring }
-    requires room { ring + 2 ≤ (D.seen disk.old).size }
+    requires room { ring + RING_AT ≤ (D.seen disk.old).size }
     requires begun { start.sequence < 2 ^ 62 }
     // Where the disk tells what it holds, this is its stream.
     ensures stream { IfOk result (λ s. IfSome (D.seen disk.old).told (λ r.

@@ -4,7 +4,7 @@ ghost use Rattle.fx_journal.specs.Ring.{want};
 ghost use Rattle.fx_journal.specs.Ready.{IsReady};
 
 use super::*;
-use fx_disks::MemDisk;
+use crate::fake::FakeDisk;
 use fx_jblock::{Fit, fits};
 use std::process::Abort;
 use std::test::Fail;
@@ -103,12 +103,11 @@ fn chain_after(rt: &impl Abort, block: &[u8; 4096], sequence: u64, chain: u64, b
     }
 }
 
-fn disk_with_a_fault(alloc: Global) -> Result<MemDisk, AllocError> {
-    let mut disk = MemDisk::new(alloc, 258)?;
-    let mut fails = Vec::new(alloc);
-    fails.push(2)?;
-    disk.fail_calls(fails);
-    Ok(disk)
+/// A disk of 258 blocks of zeros, whose second write fails.
+fn disk_with_a_fault(alloc: Global) -> Result<Option<FakeDisk>, AllocError> {
+    let mut blocks = Vec::new(alloc);
+    blocks.resize(258, [0; 4096])?;
+    Ok(FakeDisk::of(blocks, 2, 0))
 }
 
 fn expect_reserved(rt: &impl Abort, ring: &mut Ring, pool: &mut Pool, bytes: u32)
@@ -172,7 +171,7 @@ fn chain_after_two<D: Disk>(rt: &impl Abort, disk: &mut D) -> u64 {
 
 #[test]
 fn goes_on_at_the_front(rt: HostRuntime) -> Result<(), Fail> {
-    let mut disk = disk_with_a_fault(rt.alloc())?;
+    let mut disk = disk_with_a_fault(rt.alloc())?.ok_or("small")?;
     let mut pool = Pool::new(rt.alloc(), 9)?;
     let start = Start {
         sequence: 250,
