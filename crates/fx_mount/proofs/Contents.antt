@@ -13,7 +13,7 @@ use Rattle.fx_disk.specs.Record.{DiskRecord}
 use Rattle.fx_jblock.specs.declared.Start.{Start}
 use Rattle.fx_journal.specs.Stream.{IsSeries, place_after}
 use Rattle.fx_journal.specs.declared.stream.StreamBlock.{StreamBlock}
-use Rattle.fx_record.specs.Txns.{IsTxns, bytes_of}
+use Rattle.fx_record.specs.Txns.{IsTxns, all_bytes}
 use Rattle.fx_image.specs.Standing.{HasSessionRoom, StandsFor, Transactions, items_after, stream_pieces}
 use Rattle.fx_mount.specs.declared.fault.MountFault.{MountFault}
 use Rattle.fx_mount.specs.declared.fault.MountFault.TheVariants as faults
@@ -60,10 +60,10 @@ module _ (f : Fields) (blocks : List StreamBlock) (txns : Transactions) (table :
     )
 
 -- a stream has few record bytes
-pub series_short : (generation : ℕ) (start next : Start) (blocks : List StreamBlock) → IsSeries generation start blocks next → length (bytes_of (stream_pieces blocks)) ≤ 4064 * length blocks
+pub series_short : (generation : ℕ) (start next : Start) (blocks : List StreamBlock) → IsSeries generation start blocks next → length (all_bytes (stream_pieces blocks)) ≤ 4064 * length blocks
 series_short generation start next [] h = omega arith
 series_short generation start next (b ∷ bs) h =
-    omega (arith, length-append b.records (bytes_of (stream_pieces bs)), h.0.room, series_short generation (place_after start b) next bs h.1)
+    omega (arith, length-append b.records (all_bytes (stream_pieces bs)), h.0.room, series_short generation (place_after start b) next bs h.1)
 
 -- a fault of what was read is a cause
 pub cause_read : (size : ℕ) (told : Option DiskRecord) (before now : ℕ) (fault : MountFault) → fault ≢ faults.Device → IfSome told (λ r. IsReadFault size r.contents fault) → IsMountCause size told before now fault

@@ -20,7 +20,7 @@ use Rattle.fx_plain.specs.declared.kind.Kind.{Kind}
 use Rattle.fx_plain.specs.declared.kind.Kind.TheVariants.{Dir, File}
 use Rattle.fx_namespace.specs.Nodes.{NodeId, root_node, is_root, led_to, child, node_at, told_kind, object_kind, kind_of, Stands}
 use Rattle.fx_namespace.specs.Trees.{Holdings, IsTreeOf, node_of, shown}
-use Rattle.fx_namespace.specs.Changes.{Gains, IsFresh, IsPlaceFor, Resizes}
+use Rattle.fx_namespace.specs.Changes.{GainsNode, IsFreshNode, IsPlaceFor, Resizes}
 use Rattle.fx_namespace.specs.Wrong.{MayLead}
 use Rattle.fx_namespace.specs.Commits.{IsBelow, IsFileAt, IsFreePlace, IsNextNode, LeadsAlso, id_then, new_items, new_value, store_then, written_items}
 use Rattle.fx_namespace.proofs.Walks.{EndsWith, ends_with, child_value, last_step, more_step, one_path, root_is, root_not, root_not_led, same_node}
@@ -127,7 +127,7 @@ all_one P x h = All-cons P x [] h (All-nil P)
 all_two : (P : PlainItem → Type 0) (x y : PlainItem) → P x → P y → All P (x ∷ y ∷ [])
 all_two P x y h k = All-cons P x (y ∷ []) h (all_one P y k)
 
-pub new_gains : (m : ItemMap) (parent : NodeId) (name : List ℕ) (node : NodeId) (kind : Kind) → Gains m (after m (new_items parent name node kind)) parent name node (new_value kind)
+pub new_gains : (m : ItemMap) (parent : NodeId) (name : List ℕ) (node : NodeId) (kind : Kind) → GainsNode m (after m (new_items parent name node kind)) parent name node (new_value kind)
 new_gains m parent name node kind = record {
   object = let key : PlainKey = ObjectKey node.store node.id in
       ap (λ b. word m key (cond b (Some (entry_of key (new_value kind) (AtKey key))) None)) (object_itself node.store node.id) ∙ ap value_of_entry (new_said kind node.store node.id);
@@ -247,7 +247,7 @@ free_object m node id store b high = by_value (m (ObjectKey node.store node.id))
     by_value None e = refl
     by_value (Some value) e = let k = b.key (ObjectKey node.store node.id) value e in absurd (elim high [ inl i ↦ omega arith | inr j ↦ omega arith ])
 
-fresh : (m : ItemMap) (parent node : NodeId) (kind : Kind) (id store : ℕ) → IsBelow m id store → IsNextNode parent node kind id store → IsFresh m node
+fresh : (m : ItemMap) (parent node : NodeId) (kind : Kind) (id store : ℕ) → IsBelow m id store → IsNextNode parent node kind id store → IsFreshNode m node
 fresh m parent node kind id store b (inl a) =
     let e : node.store ≡ store = ap (λ z. z.store) a.2 in
     record {

@@ -11,14 +11,14 @@ use Rattle.fx_plain.specs.declared.kind.Kind.TheVariants.{Dir}
 use Rattle.fx_item.specs.Look.{ItemMap}
 use Rattle.fx_namespace.specs.Nodes.{NodeId, root_node, is_root, led_to, child, node_from, node_at, told_kind, object_kind, kind_of, Stands}
 use Rattle.fx_namespace.specs.Trees.{Holdings, IsTreeOf, node_of, shown}
-use Rattle.fx_namespace.specs.Changes.{Gains, IsPlaceFor}
+use Rattle.fx_namespace.specs.Changes.{GainsNode, IsPlaceFor}
 use Rattle.fx_namespace.specs.Commits.{LeadsAlso}
 use Rattle.fx_namespace.proofs.Walks.{EndsWith, ends_with, child_value, object_value, kind_of_inner, last_step, more_step, one_path, same_node, same_name, node_path}
 use Rattle.fx_plain.proofs.Trees.{Left, left}
 use Rattle.fx_namespace.proofs.Trees.{shown_inner}
 
 module _ {m n : ItemMap} {above : List (List ℕ)} {parent : NodeId} {name : List ℕ} {node : NodeId} {kind : Kind} {value : PlainValue}
-    (s : Stands m) (p : IsPlaceFor m above parent name node kind) (g : Gains m n parent name node value) where
+    (s : Stands m) (p : IsPlaceFor m above parent name node kind) (g : GainsNode m n parent name node value) where
   -- what stands stays
   kept : (key : PlainKey) (v : PlainValue) → m key ≡ Some v → n key ≡ Some v
   kept key v e = g.others key (λ q. cc (sym e ∙ ap m q ∙ p.fresh.object)) (λ q. cc (sym e ∙ ap m q ∙ p.free)) ∙ e

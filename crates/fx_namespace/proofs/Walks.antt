@@ -4,6 +4,7 @@ use Rattle.std.specs.Prelude.{Option, Some, None, option_and_then, nat_eq, ◌==
 use Rattle.std.proofs.lemmas.Bool.{eqb-true, eqb-false, false_from_ne_true, and_parts}
 use Rattle.std.proofs.lemmas.List.{append-nil}
 use Rattle.std.proofs.lemmas.Option.{option_and_then_some}
+use Rattle.fx_base.proofs.Numbers.{same_or_not}
 use Rattle.fx_item.specs.Item.{ObjectKey, ChildKey, PlainValue, GoneValue, DirectoryValue, FileValue, AttributeValue, ChildValue, WaitingValue, ExtentValue, TakenValue}
 use Rattle.fx_plain.specs.declared.kind.Kind.{Kind}
 use Rattle.fx_item.specs.Look.{ItemMap}
@@ -12,11 +13,7 @@ use Rattle.fx_namespace.specs.Nodes.{NodeId, root_node, is_root, led_to, child, 
 -- ---- equality of numbers, nodes and names is decided
 
 pub same_number : (a b : ℕ) → (a ≡ b) ⊎ (a ≢ b)
-same_number a b = by_test (nat_eq a b) refl
-  where
-    by_test : (t : Bool) → nat_eq a b ≡ t → (a ≡ b) ⊎ (a ≢ b)
-    by_test true e = inl (eqb-true a b e)
-    by_test false e = inr (eqb-false a b e)
+same_number = same_or_not
 
 pub node_path : (x y : NodeId) → x.store ≡ y.store → x.id ≡ y.id → x ≡ y
 node_path x y e f = λ i. record { store = e i; id = f i }

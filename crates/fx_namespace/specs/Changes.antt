@@ -10,15 +10,17 @@ use Rattle.fx_namespace.specs.Trees.{Holdings}
 use Rattle.fx_namespace.specs.Wrong.{MayLead}
 
 -- A node that no Object and no child speaks of.
-pub record IsFresh (m : ItemMap) (node : NodeId) : Type 0 where
+pub record IsFreshNode (m : ItemMap) (node : NodeId) : Type 0 where
   pub object : m (ObjectKey node.store node.id) ≡ None
   pub led : (parent : NodeId) (name : List ℕ) → child m parent name ≢ Some node
 
 -- The items gain one node: its Object, and its child entry in a directory where that name is free.
-pub record Gains (m n : ItemMap) (parent : NodeId) (name : List ℕ) (node : NodeId) (value : PlainValue) : Type 0 where
+pub record GainsNode (m n : ItemMap) (parent : NodeId) (name : List ℕ) (node : NodeId)
+    (value : PlainValue) : Type 0 where
   pub object : n (ObjectKey node.store node.id) ≡ Some value
   pub entry : n (ChildKey parent.store parent.id name) ≡ Some (ChildValue node.store node.id)
-  pub others : (key : PlainKey) → key ≢ ObjectKey node.store node.id → key ≢ ChildKey parent.store parent.id name → n key ≡ m key
+  pub others : (key : PlainKey) → key ≢ ObjectKey node.store node.id
+      → key ≢ ChildKey parent.store parent.id name → n key ≡ m key
 
 -- Holdings that differ at most in the contents of one node.
 pub record SameBut (node : NodeId) (g h : Holdings) : Type 0 where
@@ -27,11 +29,12 @@ pub record SameBut (node : NodeId) (g h : Holdings) : Type 0 where
 
 -- The place for a new node: a directory that a path leads to, with the name free, and a fresh node which
 -- may be its child, of that kind, a directory in the root, not too deep.
-pub record IsPlaceFor (m : ItemMap) (above : List (List ℕ)) (parent : NodeId) (name : List ℕ) (node : NodeId) (kind : Kind) : Type 0 where
+pub record IsPlaceFor (m : ItemMap) (above : List (List ℕ)) (parent : NodeId) (name : List ℕ)
+    (node : NodeId) (kind : Kind) : Type 0 where
   pub way : node_at m above ≡ Some parent
   pub dir : kind_of m parent ≡ Some Dir
   pub free : m (ChildKey parent.store parent.id name) ≡ None
-  pub fresh : IsFresh m node
+  pub fresh : IsFreshNode m node
   pub lead : MayLead parent node
   pub volume : parent ≡ root_node → kind ≡ Dir
   pub depth : length above < MAX_NAMES

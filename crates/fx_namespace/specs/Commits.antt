@@ -30,8 +30,10 @@ written_items node = record { key = ObjectKey node.store node.id; value = FileVa
 pub record IsBelow (m : ItemMap) (id store : ℕ) : Type 0 where
   pub root_id : 1 ≤ id
   pub root_store : 1 ≤ store
-  pub key : (key : PlainKey) (value : PlainValue) → m key ≡ Some value → (key_id key < id) × (key_store key < store)
-  pub value : (key : PlainKey) (value : PlainValue) → m key ≡ Some value → (value_id value < id) × (value_store value < store)
+  pub key : (key : PlainKey) (value : PlainValue) → m key ≡ Some value
+      → (key_id key < id) × (key_store key < store)
+  pub value : (key : PlainKey) (value : PlainValue) → m key ≡ Some value
+      → (value_id value < id) × (value_store value < store)
 
 -- The node that comes next in a directory: in the root, which has directories alone, node 0 of the next
 -- store, and elsewhere the next id in the directory's store.
@@ -49,7 +51,8 @@ store_then parent store = if is_root parent then store + 1 else store
 
 -- A new node can stand under the name: the path above it leads to the parent, which the tree
 -- has as a directory, nothing lies at the path itself, and it is not too deep.
-pub record IsFreePlace (m : ItemMap) (tree : Tree) (above : List (List ℕ)) (parent : NodeId) (name : List ℕ) : Type 0 where
+pub record IsFreePlace (m : ItemMap) (tree : Tree) (above : List (List ℕ)) (parent : NodeId)
+    (name : List ℕ) : Type 0 where
   pub way : node_at m above ≡ Some parent
   pub attributes : Attributes
   pub directory : get tree above ≡ Some (plain.Dir attributes)
@@ -57,7 +60,8 @@ pub record IsFreePlace (m : ItemMap) (tree : Tree) (above : List (List ℕ)) (pa
   pub depth : length above < MAX_NAMES
 
 -- The path leads to the node, which the tree has as a file.
-pub record IsFileAt (m : ItemMap) (tree : Tree) (path : List (List ℕ)) (node : NodeId) : Type 0 where
+pub record IsFileAt (m : ItemMap) (tree : Tree) (path : List (List ℕ))
+    (node : NodeId) : Type 0 where
   pub way : node_at m path ≡ Some node
   pub contents : Contents
   pub attributes : Attributes

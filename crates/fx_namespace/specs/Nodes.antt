@@ -29,7 +29,8 @@ child m node name = led_to (m (ChildKey node.store node.id name))
 -- the node that names lead to from a node on, child by child
 abbrev pub node_from : ItemMap → NodeId → List (List ℕ) → Option NodeId
 node_from m node [] = Some node
-node_from m node (name ∷ names) = option_and_then (λ next. node_from m next names) (child m node name)
+node_from m node (name ∷ names) =
+    option_and_then (λ next. node_from m next names) (child m node name)
 
 -- the node that a path leads to
 abbrev pub node_at : ItemMap → List (List ℕ) → Option NodeId
@@ -55,18 +56,27 @@ kind_at m path = option_and_then (kind_of m) (node_at m path)
 -- The items make a tree of nodes.
 pub record Stands (m : ItemMap) : Type 0 where
   -- a child of the root is node 0 of a store, from store 1 on
-  pub volumes : (name : List ℕ) (value : PlainValue) → m (ChildKey 0 0 name) ≡ Some value → (store : ℕ) × (value ≡ ChildValue store 0) × (1 ≤ store)
+  pub volumes : (name : List ℕ) (value : PlainValue) → m (ChildKey 0 0 name) ≡ Some value
+      → (store : ℕ) × (value ≡ ChildValue store 0) × (1 ≤ store)
   -- any other child is a node of its own store, from id 1 on
-  pub inner : (node : NodeId) (name : List ℕ) (value : PlainValue) → node ≢ root_node → m (ChildKey node.store node.id name) ≡ Some value → (id : ℕ) × (value ≡ ChildValue node.store id) × (1 ≤ id)
+  pub inner : (node : NodeId) (name : List ℕ) (value : PlainValue) → node ≢ root_node
+      → m (ChildKey node.store node.id name) ≡ Some value
+      → (id : ℕ) × (value ≡ ChildValue node.store id) × (1 ≤ id)
   -- a child has an Object
-  pub objects : (node : NodeId) (name : List ℕ) (next : NodeId) → child m node name ≡ Some next → (kind : Kind) × (object_kind m next ≡ Some kind)
+  pub objects : (node : NodeId) (name : List ℕ) (next : NodeId) → child m node name ≡ Some next
+      → (kind : Kind) × (object_kind m next ≡ Some kind)
   -- and is a directory where it is a child of the root
-  pub tops : (name : List ℕ) (next : NodeId) → child m root_node name ≡ Some next → object_kind m next ≡ Some Dir
+  pub tops : (name : List ℕ) (next : NodeId) → child m root_node name ≡ Some next
+      → object_kind m next ≡ Some Dir
   -- what has a child is a directory
-  pub parents : (node : NodeId) (name : List ℕ) (value : PlainValue) → node ≢ root_node → m (ChildKey node.store node.id name) ≡ Some value → object_kind m node ≡ Some Dir
+  pub parents : (node : NodeId) (name : List ℕ) (value : PlainValue) → node ≢ root_node
+      → m (ChildKey node.store node.id name) ≡ Some value → object_kind m node ≡ Some Dir
   -- no node is led to twice
-  pub once : (a b : NodeId) (x y : List ℕ) (next : NodeId) → child m a x ≡ Some next → child m b y ≡ Some next → (a ≡ b) × (x ≡ y)
+  pub once : (a b : NodeId) (x y : List ℕ) (next : NodeId) → child m a x ≡ Some next
+      → child m b y ≡ Some next → (a ≡ b) × (x ≡ y)
   -- each Object is of a node that some path of one or more names leads to
-  pub reached : (node : NodeId) (value : PlainValue) → m (ObjectKey node.store node.id) ≡ Some value → (above : List (List ℕ)) × (name : List ℕ) × (node_at m (above ++ name ∷ []) ≡ Some node)
+  pub reached : (node : NodeId) (value : PlainValue) → m (ObjectKey node.store node.id) ≡ Some value
+      → (above : List (List ℕ)) × (name : List ℕ) × (node_at m (above ++ name ∷ []) ≡ Some node)
   -- no path has more than 64 names
-  pub depth : (path : List (List ℕ)) (node : NodeId) → node_at m path ≡ Some node → length path ≤ MAX_NAMES
+  pub depth : (path : List (List ℕ)) (node : NodeId) → node_at m path ≡ Some node
+      → length path ≤ MAX_NAMES

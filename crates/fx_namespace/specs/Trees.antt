@@ -24,8 +24,11 @@ node_of holdings node kinds.File = File (holdings.contents node) (holdings.attri
 
 -- what a node is in the tree; the root is a directory without attributes
 abbrev pub shown : ItemMap → Holdings → NodeId → Option Node
-shown m holdings node = if is_root node then Some empty_dir else option_map (node_of holdings node) (object_kind m node)
+shown m holdings node =
+    if is_root node then Some empty_dir
+    else option_map (node_of holdings node) (object_kind m node)
 
 -- The tree has at each path what the path leads to.
 pub record IsTreeOf (m : ItemMap) (holdings : Holdings) (tree : Tree) : Type 0 where
-  pub at : (path : List (List ℕ)) → map.get tree path ≡ option_and_then (shown m holdings) (node_at m path)
+  pub at : (path : List (List ℕ))
+      → map.get tree path ≡ option_and_then (shown m holdings) (node_at m path)

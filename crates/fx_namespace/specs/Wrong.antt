@@ -9,8 +9,9 @@ use Rattle.fx_plain.specs.declared.path.TheConstants.{MAX_NAMES}
 use Rattle.fx_namespace.specs.Nodes.{NodeId, root_node, child, node_at, object_kind}
 
 -- Each key stands with a value that suits it, and no tombstone.
-pub record AreItems (m : ItemMap) : Type 0 where
-  pub item : (key : PlainKey) (value : PlainValue) → m key ≡ Some value → IsItem (record { key = key; value = value })
+pub record AreLiveItems (m : ItemMap) : Type 0 where
+  pub item : (key : PlainKey) (value : PlainValue) → m key ≡ Some value
+      → IsItem (record { key = key; value = value })
   pub alive : (key : PlainKey) → m key ≢ Some GoneValue
 
 -- A child of the root is node 0 of a store, from store 1 on, and any other child a node of its own
@@ -22,20 +23,28 @@ MayLead parent node = ((parent ≡ root_node) × (node.id ≡ 0) × (1 ≤ node.
 -- What is wrong at a node.
 pub data IsWrongAt (m : ItemMap) (node : NodeId) : Type 0 where
   -- a child that may not lead there leads to it
-  Misled : (parent : NodeId) (name : List ℕ) → child m parent name ≡ Some node → (MayLead parent node → ⊥) → IsWrongAt m node
+  Misled : (parent : NodeId) (name : List ℕ) → child m parent name ≡ Some node
+      → (MayLead parent node → ⊥) → IsWrongAt m node
   -- a child leads to it, and it has no Object
-  Missing : (parent : NodeId) (name : List ℕ) → child m parent name ≡ Some node → object_kind m node ≡ None → IsWrongAt m node
+  Missing : (parent : NodeId) (name : List ℕ) → child m parent name ≡ Some node
+      → object_kind m node ≡ None → IsWrongAt m node
   -- it is a child of the root, and no directory
-  NoVolume : (name : List ℕ) → child m root_node name ≡ Some node → object_kind m node ≢ Some Dir → IsWrongAt m node
+  NoVolume : (name : List ℕ) → child m root_node name ≡ Some node → object_kind m node ≢ Some Dir
+      → IsWrongAt m node
   -- two children lead to it
-  LedTwice : (a b : NodeId) (x y : List ℕ) → child m a x ≡ Some node → child m b y ≡ Some node → ((a ≡ b) × (x ≡ y) → ⊥) → IsWrongAt m node
+  LedTwice : (a b : NodeId) (x y : List ℕ) → child m a x ≡ Some node → child m b y ≡ Some node
+      → ((a ≡ b) × (x ≡ y) → ⊥) → IsWrongAt m node
   -- it has a child, and is no directory
-  NoParent : (name : List ℕ) (value : PlainValue) → node ≢ root_node → m (ChildKey node.store node.id name) ≡ Some value → object_kind m node ≢ Some Dir → IsWrongAt m node
+  NoParent : (name : List ℕ) (value : PlainValue) → node ≢ root_node
+      → m (ChildKey node.store node.id name) ≡ Some value → object_kind m node ≢ Some Dir
+      → IsWrongAt m node
   -- it has an Object, and no path of one or more names leads to it
   Lost : (value : PlainValue) → m (ObjectKey node.store node.id) ≡ Some value
-      → ((above : List (List ℕ)) (name : List ℕ) → node_at m (above ++ name ∷ []) ≡ Some node → ⊥) → IsWrongAt m node
+      → ((above : List (List ℕ)) (name : List ℕ) → node_at m (above ++ name ∷ []) ≡ Some node → ⊥)
+      → IsWrongAt m node
   -- a path of more than 64 names leads to it
-  TooDeep : (path : List (List ℕ)) → node_at m path ≡ Some node → MAX_NAMES < length path → IsWrongAt m node
+  TooDeep : (path : List (List ℕ)) → node_at m path ≡ Some node → MAX_NAMES < length path
+      → IsWrongAt m node
 
 -- The least of the nodes at which something is wrong, by store and id.
 pub record IsLeastWrong (m : ItemMap) (node : NodeId) : Type 0 where

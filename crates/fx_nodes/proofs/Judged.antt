@@ -8,7 +8,7 @@ use Rattle.fx_namespace.specs.Nodes.{NodeId, Stands}
 use Rattle.fx_namespace.specs.Wrong.{IsLeastWrong, IsWrongAt, Misled, Missing, NoVolume, LedTwice, NoParent, Lost, TooDeep}
 use Rattle.fx_nodes.specs.Lists.{IsIn}
 use Rattle.fx_nodes.specs.Links.{links_of, objects_of, targets_in}
-use Rattle.fx_nodes.specs.Faults.{AreDeep, AreLost, AreRepeated, IsLeastOf, wrong_by}
+use Rattle.fx_nodes.specs.Faults.{AreDeep, AreLost, AreRepeated, IsLeastNode, wrong_by}
 use Rattle.fx_nodes.specs.Table.{AreKept}
 use Rattle.fx_nodes.proofs.Keys.{item_keys}
 use Rattle.fx_nodes.proofs.NothingWrong as laws
@@ -48,11 +48,11 @@ module _ {items : List PlainItem} (k : AreKept items) {first twice lost deep : L
   whole node (Lost v e un) = in_left ((first ++ twice) ++ lost) deep node (in_right (first ++ twice) lost node (l.whole node (object_in items node v e) un))
   whole node (TooDeep path e long) = in_right ((first ++ twice) ++ lost) deep node (d.whole path node e long)
 
-  pub least_wrong : (o : Option NodeId) → IsLeastOf (((first ++ twice) ++ lost) ++ deep) o → IfSome o (IsLeastWrong (value_in items))
+  pub least_wrong : (o : Option NodeId) → IsLeastNode (((first ++ twice) ++ lost) ++ deep) o → IfSome o (IsLeastWrong (value_in items))
   least_wrong None h = tt
   least_wrong (Some node) h = record { wrong = sound node h.0; least = λ other w. h.1 other (whole other w) }
 
-  pub all_stand : (o : Option NodeId) → IsLeastOf (((first ++ twice) ++ lost) ++ deep) o → IfNone o (Stands (value_in items))
+  pub all_stand : (o : Option NodeId) → IsLeastNode (((first ++ twice) ++ lost) ++ deep) o → IfNone o (Stands (value_in items))
   all_stand (Some node) h = tt
   all_stand None h = laws.stands (value_in items) (are_items items k) (item_keys items)
       (λ key value e. contains_from (item_keys items) key (in_map (λ x. x.key) items (record { key = key; value = value }) (found items key value e)))

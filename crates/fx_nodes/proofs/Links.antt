@@ -15,7 +15,7 @@ use Rattle.fx_item.specs.Look.{ItemMap, value_in}
 use Rattle.fx_item.specs.LockKey.{key_cmp as node_cmp}
 use Rattle.fx_item.specs.Order.{key_cmp}
 use Rattle.fx_namespace.specs.Nodes.{NodeId, child, led_to}
-use Rattle.fx_namespace.specs.Wrong.{AreItems}
+use Rattle.fx_namespace.specs.Wrong.{AreLiveItems}
 use Rattle.fx_namespace.proofs.Walks.{child_value}
 use Rattle.fx_nodes.specs.Lists.{IsIn}
 use Rattle.fx_nodes.specs.Links.{Link, link_at, links_of, is_same_node, links_from, links_in, link_of, object_at, objects_of}
@@ -50,7 +50,7 @@ stands [] x s i = absurd i
 stands (y ∷ xs) x s (inl e) = ap (λ b. cond b (Some y.value) (value_in xs x.key)) (ap (λ z. at y.key z.key) (sym e) ∙ at_itself y.key) ∙ ap (λ z. Some z.value) e
 stands (y ∷ xs) x s (inr i) = ap (λ b. cond b (Some y.value) (value_in xs x.key)) (ap is_eq (below_each y.key xs x s.0 i)) ∙ stands xs x s.1 i
 
-pub are_items : (items : List PlainItem) → AreKept items → AreItems (value_in items)
+pub are_items : (items : List PlainItem) → AreKept items → AreLiveItems (value_in items)
 are_items items k = record {
   item = λ key value e. All-contains IsItem items (record { key = key; value = value }) k.each (contains_from items (record { key = key; value = value }) (found items key value e));
   alive = λ key e. All-contains (λ x. x.value ≢ GoneValue) items (record { key = key; value = GoneValue }) k.alive (contains_from items (record { key = key; value = GoneValue }) (found items key GoneValue e)) refl;

@@ -15,7 +15,7 @@ use Rattle.fx_namespace.specs.Nodes.{NodeId}
 use Rattle.fx_namespace.proofs.Walks.{node_path}
 use Rattle.fx_nodes.specs.Lists.{IsIn}
 use Rattle.fx_nodes.specs.Links.{is_same_node}
-use Rattle.fx_nodes.specs.Faults.{IsLeastOf}
+use Rattle.fx_nodes.specs.Faults.{IsLeastNode}
 
 pub is_node_same : (a b : NodeId) → is_same_node a b ≡ true → a ≡ b
 is_node_same a b e = let p = and_parts (a.store == b.store) (a.id == b.id) e in node_path a b (eqb-true a.store b.store p.0) (eqb-true a.id b.id p.1)
@@ -102,6 +102,6 @@ fold_least (y ∷ xs) x = by_lesser (lesser_cases x y) (fold_least xs (lesser x 
       ],
     )
 
-pub reduce_least : (xs : List NodeId) → IsLeastOf xs (reduce lesser xs)
+pub reduce_least : (xs : List NodeId) → IsLeastNode xs (reduce lesser xs)
 reduce_least [] = refl
 reduce_least (x ∷ xs) = fold_least xs x

@@ -8,7 +8,7 @@ use Rattle.fx_plain.specs.declared.kind.Kind.{Kind}
 use Rattle.fx_plain.specs.declared.kind.Kind.TheVariants.{Dir, File}
 use Rattle.fx_plain.specs.declared.path.TheConstants.{MAX_NAMES}
 use Rattle.fx_namespace.specs.Nodes.{NodeId, Stands, child, led_to, node_at, object_kind, root_node}
-use Rattle.fx_namespace.specs.Wrong.{AreItems, IsWrongAt, Misled, Missing, NoVolume, LedTwice, NoParent, Lost, TooDeep, MayLead}
+use Rattle.fx_namespace.specs.Wrong.{AreLiveItems, IsWrongAt, Misled, Missing, NoVolume, LedTwice, NoParent, Lost, TooDeep, MayLead}
 use Rattle.fx_namespace.proofs.Walks.{EndsWith, child_value, ends_with, last_step, more_step, object_value, same_name, same_node}
 use Rattle.fx_nodes.specs.Lists.{IsIn}
 use Rattle.fx_nodes.specs.Faults.{may_lead as may_lead_test}
@@ -41,7 +41,7 @@ module _ (m : ItemMap) (s : Stands m) where
 
 -- ---- nothing is wrong: it makes a tree
 
-module _ (m : ItemMap) (are : AreItems m) (keys : List PlainKey) (listed : (key : PlainKey) (value : PlainValue) → m key ≡ Some value → Contains keys key)
+module _ (m : ItemMap) (are : AreLiveItems m) (keys : List PlainKey) (listed : (key : PlainKey) (value : PlainValue) → m key ≡ Some value → Contains keys key)
     (right : (node : NodeId) → IsWrongAt m node → ⊥) where
   -- what stands under a child's key leads to a node
   leads : (s i : ℕ) (x : List ℕ) (v : PlainValue) → IsItem (record { key = ChildKey s i x; value = v }) → (v ≡ GoneValue → ⊥) → (n : NodeId) × (v ≡ ChildValue n.store n.id)

@@ -62,7 +62,7 @@ pub record AreDeep (m : ItemMap) (deep : List NodeId) : Type 0 where
       → MAX_NAMES < length path → IsIn deep node
 
 -- what is the least of some nodes
-abbrev pub IsLeastOf : List NodeId → Option NodeId → Type 0
-IsLeastOf nodes None = nodes ≡ []
-IsLeastOf nodes (Some node) = IsIn nodes node
+abbrev pub IsLeastNode : List NodeId → Option NodeId → Type 0
+IsLeastNode nodes None = nodes ≡ []
+IsLeastNode nodes (Some node) = IsIn nodes node
     × ((other : NodeId) → IsIn nodes other → IsTrue (is_le (key_cmp node other)))

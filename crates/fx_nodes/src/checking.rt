@@ -4,7 +4,7 @@ ghost use Rattle.std.specs.List.{flat_map};
 ghost use Rattle.fx_item.specs.Look.{value_in};
 ghost use Rattle.fx_namespace.specs.Nodes.{Stands, object_kind};
 ghost use Rattle.fx_namespace.specs.Wrong.{IsLeastWrong};
-ghost use Rattle.fx_nodes.specs.Faults.{AreDeep, AreLost, AreRepeated, IsLeastOf, is_childless, is_wrong_child, may_be, may_lead, wrong_by};
+ghost use Rattle.fx_nodes.specs.Faults.{AreDeep, AreLost, AreRepeated, IsLeastNode, is_childless, is_wrong_child, may_be, may_lead, wrong_by};
 ghost use Rattle.fx_nodes.specs.Links.{link_of, links_of, objects_of, targets_in};
 ghost use Rattle.fx_nodes.specs.Table.{AreKept};
 
@@ -34,7 +34,7 @@ pub fn check(alloc: Global, table: &ItemTable) -> Result<Option<LockKey>, AllocE
 
 /// The least of some nodes, by store and id.
 fn least(nodes: &[LockKey]) -> Option<LockKey>
-    ensures { IsLeastOf nodes.now result }
+    ensures { IsLeastNode nodes.now result }
 {
     nodes.iter().copied().min()
 }

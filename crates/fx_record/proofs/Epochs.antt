@@ -7,7 +7,7 @@ use Rattle.std.proofs.lemmas.List.{map-append}
 use Rattle.std.proofs.lemmas.List.Elements.{All-nil, All-cons, All-head, All-tail, All-weaker}
 use Rattle.fx_record.specs.Record.{PlainRecord, IsRecord, record_bytes}
 use Rattle.fx_record.specs.Reading.{IsCut}
-use Rattle.fx_record.specs.Txns.{onto, runs, texts, bytes_of, Front, Nothing, First, Dropped}
+use Rattle.fx_record.specs.Txns.{onto, runs, epoch_texts, all_bytes, Front, Nothing, First, Dropped}
 use Rattle.fx_record.specs.Commits.{records_bytes, blocks_of, AreBefore, AreOf}
 
 abbrev Blocks : Type 0
@@ -15,7 +15,7 @@ Blocks = List (ℕ × List ℕ)
 
 -- ---- one more text
 
-run_of : (epoch : ℕ) (block : ℕ × List ℕ) (more : Blocks) → AreOf epoch (block ∷ more) → runs (block ∷ more) ≡ (epoch, bytes_of (block ∷ more)) ∷ []
+run_of : (epoch : ℕ) (block : ℕ × List ℕ) (more : Blocks) → AreOf epoch (block ∷ more) → runs (block ∷ more) ≡ (epoch, all_bytes (block ∷ more)) ∷ []
 run_of epoch block [] h =
     let here = All-head (λ (b : ℕ × List ℕ). b.0 ≡ epoch) block [] h in
     ap (λ (n : ℕ). let alone : Blocks = (n, block.1) ∷ [] in alone) here ∙ ap (λ (w : List ℕ). let alone : Blocks = (epoch, w) ∷ [] in alone) (sym (append-nil block.1))
@@ -23,7 +23,7 @@ run_of epoch block (next ∷ more) h =
     let here = All-head (λ (b : ℕ × List ℕ). b.0 ≡ epoch) block (next ∷ more) h in
     let after = run_of epoch next more (All-tail (λ (b : ℕ × List ℕ). b.0 ≡ epoch) block (next ∷ more) h) in
     let test : eqb block.0 epoch ≡ true = eq-eqb block.0 epoch here in
-    ap (onto block) after ∙ rw test (ap (λ (n : ℕ). let joined : Blocks = (n, block.1 ++ bytes_of (next ∷ more)) ∷ [] in joined) here)
+    ap (onto block) after ∙ rw test (ap (λ (n : ℕ). let joined : Blocks = (n, block.1 ++ all_bytes (next ∷ more)) ∷ [] in joined) here)
 
 onto_before : (block run : ℕ × List ℕ) (rest : Blocks) → block.0 ≢ run.0 → onto block (rest ++ run ∷ []) ≡ onto block rest ++ run ∷ []
 onto_before block run [] other = rw (ne_eqb block.0 run.0 other) refl
@@ -33,22 +33,22 @@ onto_before block run (next ∷ rest) other =
       | false ↦ refl
     ]
 
-runs_more : (epoch : ℕ) (read : Blocks) (block : ℕ × List ℕ) (more : Blocks) → AreBefore epoch read → AreOf epoch (block ∷ more) → runs (read ++ block ∷ more) ≡ runs read ++ (epoch, bytes_of (block ∷ more)) ∷ []
+runs_more : (epoch : ℕ) (read : Blocks) (block : ℕ × List ℕ) (more : Blocks) → AreBefore epoch read → AreOf epoch (block ∷ more) → runs (read ++ block ∷ more) ≡ runs read ++ (epoch, all_bytes (block ∷ more)) ∷ []
 runs_more epoch [] block more before of = run_of epoch block more of
 runs_more epoch (first ∷ read) block more before of =
     let here = All-head (λ (b : ℕ × List ℕ). b.0 < epoch) first read before in
     let after = runs_more epoch read block more (All-tail (λ (b : ℕ × List ℕ). b.0 < epoch) first read before) of in
-    ap (onto first) after ∙ onto_before first (epoch, bytes_of (block ∷ more)) (runs read) (λ e. omega (arith, here, e))
+    ap (onto first) after ∙ onto_before first (epoch, all_bytes (block ∷ more)) (runs read) (λ e. omega (arith, here, e))
 
-pub texts_more : (epoch : ℕ) (read : Blocks) (block : ℕ × List ℕ) (more : Blocks) → AreBefore epoch read → AreOf epoch (block ∷ more) → texts (read ++ block ∷ more) ≡ texts read ++ bytes_of (block ∷ more) ∷ []
+pub texts_more : (epoch : ℕ) (read : Blocks) (block : ℕ × List ℕ) (more : Blocks) → AreBefore epoch read → AreOf epoch (block ∷ more) → epoch_texts (read ++ block ∷ more) ≡ epoch_texts read ++ all_bytes (block ∷ more) ∷ []
 texts_more epoch read block more before of =
-    ap (map (λ (run : ℕ × List ℕ). run.1)) (runs_more epoch read block more before of) ∙ map-append (λ (run : ℕ × List ℕ). run.1) (runs read) ((epoch, bytes_of (block ∷ more)) ∷ [])
+    ap (map (λ (run : ℕ × List ℕ). run.1)) (runs_more epoch read block more before of) ∙ map-append (λ (run : ℕ × List ℕ). run.1) (runs read) ((epoch, all_bytes (block ∷ more)) ∷ [])
 
 pub are_of : (epoch : ℕ) (ts : List (List ℕ)) → AreOf epoch (blocks_of epoch ts)
 are_of epoch [] = All-nil (λ (b : ℕ × List ℕ). b.0 ≡ epoch)
 are_of epoch (t ∷ ts) = All-cons (λ (b : ℕ × List ℕ). b.0 ≡ epoch) (epoch, t) (blocks_of epoch ts) refl (are_of epoch ts)
 
-pub bytes_are : (epoch : ℕ) (ts : List (List ℕ)) → bytes_of (blocks_of epoch ts) ≡ concat ts
+pub bytes_are : (epoch : ℕ) (ts : List (List ℕ)) → all_bytes (blocks_of epoch ts) ≡ concat ts
 bytes_are epoch [] = refl
 bytes_are epoch (t ∷ ts) = ap (λ (w : List ℕ). t ++ w) (bytes_are epoch ts)
 

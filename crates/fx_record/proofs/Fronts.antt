@@ -6,7 +6,7 @@ use Rattle.std.proofs.lemmas.List.{append_cancel_left}
 use Rattle.fx_item.specs.Item.{PlainItem}
 use Rattle.fx_record.specs.Record.{PlainRecord, IsRecord, record_bytes}
 use Rattle.fx_record.specs.Reading.{IsCut}
-use Rattle.fx_record.specs.Txns.{Front, Nothing, First, Dropped, number_of, may_come, in_order, last_number, left_by, IsTxns, IsWrong, IsBadRecord}
+use Rattle.fx_record.specs.Txns.{Front, Nothing, First, Dropped, number_of, may_come, in_order, last_number, txns_left_by, IsTxns, IsWrong, IsBadRecord}
 use Rattle.fx_record.specs.declared.record.RecordFault.TheVariants as faults
 use Rattle.fx_record.proofs.Faults.{no_fault, same_record}
 use Rattle.fx_record.proofs.Numbers.{in_order_rest}
@@ -66,7 +66,7 @@ one_answer base blocks a b p q =
       | inl k ↦ sym (k.1 ∙ ap (λ (w : List PlainRecord). p.records ++ w) (none_in_nothing k.2).0 ∙ append-nil p.records)
       | inr k ↦ k.1 ∙ ap (λ (w : List PlainRecord). q.records ++ w) (none_in_nothing k.2).0 ∙ append-nil q.records
     ] in
-    p.txns_are ∙ ap left_by same ∙ sym q.txns_are
+    p.txns_are ∙ ap txns_left_by same ∙ sym q.txns_are
 
 pub not_both : (base : ℕ) (blocks : Blocks) (a : List (ℕ × List PlainItem)) (place : ℕ) → IsTxns base blocks a → IsBadRecord base blocks place → ⊥
 not_both base blocks a place p q =

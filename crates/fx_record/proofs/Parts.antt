@@ -6,7 +6,7 @@ use Rattle.byteorder.specs.Numbers.{little_number-reads_back, length-bytes_low_f
 use Rattle.fx_item.specs.Item.{PlainItem}
 use Rattle.fx_record.specs.Record.{PlainRecord, TransactionRecord, DiscardRecord, IsRecord, items_bytes, body_bytes, record_bytes}
 use Rattle.fx_record.specs.Writing.{head_bytes}
-use Rattle.fx_record.specs.Reading.{stated, body_at, count_at, items_at, IsWhole, IsTransactionBody, IsDiscardBody}
+use Rattle.fx_record.specs.Reading.{stated, body_at, count_at, items_at, HoldsWhole, IsTransactionBody, IsDiscardBody}
 use Rattle.fx_record.proofs.Lists.{count-le-bytes}
 
 len4 : (x : ℕ) → length (little_bytes 4 x) ≡ 4
@@ -88,7 +88,7 @@ transaction_long number items bytes rest e =
 pub record IsReadWhole (bytes : List ℕ) (x : PlainRecord) : Type 0 where
   pub stated_is : stated bytes ≡ length (body_bytes x)
   pub body_is : body_at bytes ≡ body_bytes x
-  pub whole : IsWhole bytes
+  pub whole : HoldsWhole bytes
 
 pub read_whole : (x : PlainRecord) (rest : List ℕ) → length (body_bytes x) < 2 ^ 32 → IsReadWhole (record_bytes x ++ rest) x
 unfolding record_bytes

@@ -3,7 +3,7 @@ use Rattle.std.proofs.Common.{◌≡◌, ◌≢◌, ℕ, zero, suc, ◌+◌, ◌
 use Rattle.std.proofs.lemmas.Bool.{eq-eqb, ne_eqb}
 use Rattle.std.proofs.lemmas.List.{take-append-drop, map-append, at_drop_more, flat_map_more, take_more, get_or_default}
 use Rattle.std.proofs.lemmas.List.Concat.{flat_map-append}
-use Rattle.fx_record.specs.Txns.{pieces_of, onto, runs, texts, bytes_of}
+use Rattle.fx_record.specs.Txns.{pieces_of, onto, runs, epoch_texts, all_bytes}
 use Rattle.fx_record.specs.declared.txns.Piece.{Piece}
 
 -- a block before blocks of another epoch
@@ -25,7 +25,7 @@ alone : (b : ℕ × List ℕ) → (let blocks : List (ℕ × List ℕ) = b ∷ [
 alone b = ap (λ (w : List ℕ). let blocks : List (ℕ × List ℕ) = (b.0, w) ∷ [] in blocks) (sym (append-nil b.1))
 
 first_run : (n : ℕ) (p : Piece) (pieces : List Piece) → Same n p pieces → Ends n p pieces →
-    runs (pieces_of (p ∷ pieces)) ≡ (p.epoch, p.records ++ bytes_of (pieces_of (take n pieces))) ∷ runs (pieces_of (drop n pieces))
+    runs (pieces_of (p ∷ pieces)) ≡ (p.epoch, p.records ++ all_bytes (pieces_of (take n pieces))) ∷ runs (pieces_of (drop n pieces))
 first_run zero p [] same ends = alone (p.epoch, p.records)
 first_run (suc n) p [] same ends = alone (p.epoch, p.records)
 first_run zero p (q ∷ rest) same ends =
@@ -39,7 +39,7 @@ first_run (suc n) p (q ∷ rest) same ends =
     ap (onto (p.epoch, p.records)) after ∙ rw test refl
 
 pub first_text : (pieces : List Piece) (n : ℕ) (p : Piece) → 1 ≤ n → n ≤ length pieces → ((k : ℕ) (d : Piece) → k < n → (get_or pieces k d).epoch ≡ p.epoch) → ((d : Piece) → n < length pieces → (get_or pieces n d).epoch ≢ p.epoch) →
-    texts (pieces_of pieces) ≡ bytes_of (pieces_of (take n pieces)) ∷ texts (pieces_of (drop n pieces))
+    epoch_texts (pieces_of pieces) ≡ all_bytes (pieces_of (take n pieces)) ∷ epoch_texts (pieces_of (drop n pieces))
 first_text pieces zero p some most same ends = absurd (omega arith)
 first_text [] (suc n) p some most same ends = absurd (omega arith)
 first_text (q ∷ rest) (suc n) p some most same ends =
@@ -54,41 +54,41 @@ not_first pieces (suc i) d q some here other = omega arith
 
 -- ---- joining
 
-pub bytes_split : (n : ℕ) (pieces : List Piece) → bytes_of (pieces_of pieces) ≡ bytes_of (pieces_of (take n pieces)) ++ bytes_of (pieces_of (drop n pieces))
+pub bytes_split : (n : ℕ) (pieces : List Piece) → all_bytes (pieces_of pieces) ≡ all_bytes (pieces_of (take n pieces)) ++ all_bytes (pieces_of (drop n pieces))
 bytes_split n pieces =
-    ap (λ (w : List Piece). bytes_of (pieces_of w)) (sym (take-append-drop n pieces))
-    ∙ ap bytes_of (map-append (λ (p : Piece). (p.epoch, p.records)) (take n pieces) (drop n pieces))
+    ap (λ (w : List Piece). all_bytes (pieces_of w)) (sym (take-append-drop n pieces))
+    ∙ ap all_bytes (map-append (λ (p : Piece). (p.epoch, p.records)) (take n pieces) (drop n pieces))
     ∙ flat_map-append (λ (b : ℕ × List ℕ). b.1) (pieces_of (take n pieces)) (pieces_of (drop n pieces))
 
 pub len_more : (pieces : List Piece) (i : ℕ) (p : Piece) → i < length pieces → p ≡ get_or pieces i p →
-    length (bytes_of (pieces_of (drop i pieces))) ≡ length p.records + length (bytes_of (pieces_of (drop (i + 1) pieces)))
+    length (all_bytes (pieces_of (drop i pieces))) ≡ length p.records + length (all_bytes (pieces_of (drop (i + 1) pieces)))
 len_more pieces i p lt e =
     let rest = drop (i + 1) pieces in
-    at_drop_more (λ (w : List Piece). length (bytes_of (pieces_of w))) pieces i p lt
-    ∙ ap (λ (y : Piece). length (bytes_of (pieces_of (y ∷ rest)))) (sym e)
-    ∙ length-append p.records (bytes_of (pieces_of rest))
+    at_drop_more (λ (w : List Piece). length (all_bytes (pieces_of w))) pieces i p lt
+    ∙ ap (λ (y : Piece). length (all_bytes (pieces_of (y ∷ rest)))) (sym e)
+    ∙ length-append p.records (all_bytes (pieces_of rest))
 
 pub bytes_more : (pieces : List Piece) (i : ℕ) (p : Piece) → i < length pieces → p ≡ get_or pieces i p →
-    bytes_of (pieces_of (take i pieces)) ++ p.records ≡ bytes_of (pieces_of (take (i + 1) pieces))
+    all_bytes (pieces_of (take i pieces)) ++ p.records ≡ all_bytes (pieces_of (take (i + 1) pieces))
 bytes_more pieces i p lt e =
     let front = take i pieces in
     flat_map_more (λ (b : ℕ × List ℕ). b.1) [] (pieces_of front) (p.epoch, p.records)
-    ∙ ap bytes_of (sym (map-append (λ (q : Piece). (q.epoch, q.records)) front (p ∷ [])))
-    ∙ ap (λ (y : Piece). bytes_of (pieces_of (front ++ y ∷ []))) e
-    ∙ ap (λ (w : List Piece). bytes_of (pieces_of w)) (sym (take_more pieces i p lt))
+    ∙ ap all_bytes (sym (map-append (λ (q : Piece). (q.epoch, q.records)) front (p ∷ [])))
+    ∙ ap (λ (y : Piece). all_bytes (pieces_of (front ++ y ∷ []))) e
+    ∙ ap (λ (w : List Piece). all_bytes (pieces_of w)) (sym (take_more pieces i p lt))
 
-pub next_text : (rest run others : List Piece) (n : ℕ) (text : List ℕ) → texts (pieces_of rest) ≡ bytes_of (pieces_of (take n rest)) ∷ texts (pieces_of (drop n rest)) → run ≡ take n rest → others ≡ drop n rest → text ≡ bytes_of (pieces_of run) →
-    texts (pieces_of rest) ≡ text ∷ texts (pieces_of others)
+pub next_text : (rest run others : List Piece) (n : ℕ) (text : List ℕ) → epoch_texts (pieces_of rest) ≡ all_bytes (pieces_of (take n rest)) ∷ epoch_texts (pieces_of (drop n rest)) → run ≡ take n rest → others ≡ drop n rest → text ≡ all_bytes (pieces_of run) →
+    epoch_texts (pieces_of rest) ≡ text ∷ epoch_texts (pieces_of others)
 next_text rest run others n text e front back joined =
     e
-    ∙ ap (λ (w : List ℕ). w ∷ texts (pieces_of (drop n rest))) (sym (joined ∙ ap (λ (w : List Piece). bytes_of (pieces_of w)) front))
-    ∙ ap (λ (w : List Piece). text ∷ texts (pieces_of w)) (sym back)
+    ∙ ap (λ (w : List ℕ). w ∷ epoch_texts (pieces_of (drop n rest))) (sym (joined ∙ ap (λ (w : List Piece). all_bytes (pieces_of w)) front))
+    ∙ ap (λ (w : List Piece). text ∷ epoch_texts (pieces_of w)) (sym back)
 
-pub next_len : (rest run others : List Piece) (n : ℕ) (text : List ℕ) → run ≡ take n rest → others ≡ drop n rest → text ≡ bytes_of (pieces_of run) →
-    length (bytes_of (pieces_of rest)) ≡ length text + length (bytes_of (pieces_of others))
+pub next_len : (rest run others : List Piece) (n : ℕ) (text : List ℕ) → run ≡ take n rest → others ≡ drop n rest → text ≡ all_bytes (pieces_of run) →
+    length (all_bytes (pieces_of rest)) ≡ length text + length (all_bytes (pieces_of others))
 next_len rest run others n text front back joined =
     ap length (bytes_split n rest)
-    ∙ length-append (bytes_of (pieces_of (take n rest))) (bytes_of (pieces_of (drop n rest)))
-    ∙ ap (λ (w : List Piece). length (bytes_of (pieces_of w)) + length (bytes_of (pieces_of (drop n rest)))) (sym front)
-    ∙ ap (λ (w : List ℕ). length w + length (bytes_of (pieces_of (drop n rest)))) (sym joined)
-    ∙ ap (λ (w : List Piece). length text + length (bytes_of (pieces_of w))) (sym back)
+    ∙ length-append (all_bytes (pieces_of (take n rest))) (all_bytes (pieces_of (drop n rest)))
+    ∙ ap (λ (w : List Piece). length (all_bytes (pieces_of w)) + length (all_bytes (pieces_of (drop n rest)))) (sym front)
+    ∙ ap (λ (w : List ℕ). length w + length (all_bytes (pieces_of (drop n rest)))) (sym joined)
+    ∙ ap (λ (w : List Piece). length text + length (all_bytes (pieces_of w))) (sym back)

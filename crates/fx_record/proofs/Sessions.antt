@@ -6,7 +6,7 @@ use Rattle.std.proofs.lemmas.List.Elements.{All-nil, All-head, All-tail, All-pus
 use Rattle.std.proofs.lemmas.List.Sums.{fold-append}
 use Rattle.fx_record.specs.Record.{PlainRecord, TransactionRecord, DiscardRecord, IsRecord}
 use Rattle.fx_record.specs.Reading.{IsCut}
-use Rattle.fx_record.specs.Txns.{texts, bytes_of, Front, put, number_of, last_number, in_order, IsTxns}
+use Rattle.fx_record.specs.Txns.{epoch_texts, all_bytes, Front, put, number_of, last_number, in_order, IsTxns}
 use Rattle.fx_record.specs.Commits.{IsCommit, numbered, records_of, commits_bytes, blocks_of, AreBefore, AreOf, CutsCommits}
 use Rattle.fx_record.proofs.Numbers.{in_order_join}
 use Rattle.fx_record.proofs.Fronts.{front_then}
@@ -19,7 +19,7 @@ abbrev Blocks : Type 0
 Blocks = List (ℕ × List ℕ)
 
 -- One more text with the records of these commits, and a cut record or nothing.
-text_more : (base : ℕ) (read after : Blocks) (txns : Txns) (commits : List Items) (text tail : List ℕ) → IsTxns base read txns → texts after ≡ texts read ++ text ∷ [] → All IsRecord (records_of (base + length txns) commits) →
+text_more : (base : ℕ) (read after : Blocks) (txns : Txns) (commits : List Items) (text tail : List ℕ) → IsTxns base read txns → epoch_texts after ≡ epoch_texts read ++ text ∷ [] → All IsRecord (records_of (base + length txns) commits) →
     text ≡ commits_bytes (base + length txns) commits ++ tail → IsCut tail → IsTxns base after (txns ++ numbered (base + length txns) commits)
 text_more base read after txns commits text tail h same all parts cut =
     let last = base + length txns in
@@ -38,12 +38,12 @@ same_stream base read txns h =
 
 -- The blocks of one more epoch add the commits that their bytes keep.
 pub one_more_epoch : (base epoch : ℕ) (read more : Blocks) (txns : Txns) (commits : List Items) (count : ℕ) → IsTxns base read txns → AreBefore epoch read → AreOf epoch more → All IsRecord (records_of (base + length txns) commits) →
-    CutsCommits (base + length txns) commits (bytes_of more) count → IsTxns base (read ++ more) (txns ++ numbered (base + length txns) (take count commits))
+    CutsCommits (base + length txns) commits (all_bytes more) count → IsTxns base (read ++ more) (txns ++ numbered (base + length txns) (take count commits))
 one_more_epoch base epoch read [] txns commits count h before of all cut =
     let none = keeps_none (base + length txns) commits [] count cut refl in
     subst (λ (n : ℕ). IsTxns base (read ++ []) (txns ++ numbered (base + length txns) (take n commits))) (sym none) (same_stream base read txns h)
 one_more_epoch base epoch read (block ∷ more) txns commits count h before of all cut =
-    text_more base read (read ++ block ∷ more) txns (take count commits) (bytes_of (block ∷ more)) cut.tail h (texts_more epoch read block more before of) (first_records (base + length txns) count commits all) cut.parts cut.is_cut
+    text_more base read (read ++ block ∷ more) txns (take count commits) (all_bytes (block ∷ more)) cut.tail h (texts_more epoch read block more before of) (first_records (base + length txns) count commits all) cut.parts cut.is_cut
   where
     first_records : (last k : ℕ) (xs : List Items) → All IsRecord (records_of last xs) → All IsRecord (records_of last (take k xs))
     first_records last k xs all = subst (All IsRecord) (take-records_of last k xs) (All-take IsRecord k (records_of last xs) all)

@@ -8,9 +8,9 @@ use Rattle.fx_item.specs.Item.{PlainItem, IsItem, item_bytes, item_of, items_of}
 use Rattle.fx_item.specs.Order.{is_ascending}
 use Rattle.fx_item.specs.declared.item.Item.{Item}
 use Rattle.fx_item.proofs.Fields.{IsBytes, IsBytes-drop, wide4, wide8}
-use Rattle.fx_record.specs.Record.{PlainRecord, TransactionRecord, DiscardRecord, AreItems, IsRecord, items_bytes, body_bytes, record_bytes, record_of}
+use Rattle.fx_record.specs.Record.{PlainRecord, TransactionRecord, DiscardRecord, AreItems, IsRecord, items_bytes, body_bytes, record_bytes, plain_record}
 use Rattle.fx_record.specs.Writing.{head_bytes}
-use Rattle.fx_record.specs.Reading.{IsFault, Takes, ItemRead, AreAll, ItemsRead, IsBodyOf, IsReadAs, IsRefusedAs}
+use Rattle.fx_record.specs.Reading.{IsFault, TakesItem, ItemRead, AreAll, ItemsRead, IsBodyOf, IsRecordReadAs, IsRefusedAs}
 use Rattle.fx_record.specs.declared.record.Record.{Record}
 use Rattle.fx_record.specs.declared.record.Record.TheVariants as records
 use Rattle.fx_record.specs.declared.record.RecordFault.{RecordFault}
@@ -44,8 +44,8 @@ text_more old xs i x lt e =
     ∙ ap (λ (y : Item). items_bytes (items_of (front ++ y ∷ []))) e
     ∙ ap (λ (w : List Item). items_bytes (items_of w)) (sym (take_more xs i x lt)))
 
-pub transaction_of : (r : Record) (number : ℕ) (items : List Item) → r ≡ (let t : Record = records.Txn number items in t) → record_of r ≡ TransactionRecord number (items_of items)
-transaction_of r number items e = ap record_of e
+pub transaction_of : (r : Record) (number : ℕ) (items : List Item) → r ≡ (let t : Record = records.Txn number items in t) → plain_record r ≡ TransactionRecord number (items_of items)
+transaction_of r number items e = ap plain_record e
 
 pub transaction_text : (number : ℕ) (items : List PlainItem) → length (record_bytes (TransactionRecord number items)) ≡ 17 + length (items_bytes items)
 transaction_text number items = omega (arith, record_len (TransactionRecord number items), transaction_len number items)
@@ -68,7 +68,7 @@ transaction_written old mid grown new head number n items mid_is grown_is head_i
 -- ---- reading
 
 pub takes : (items news : List Item) (found : Item) (len : ℕ) (bytes rest : List ℕ) → AreItems (items_of items) → news ≡ items ++ found ∷ [] → IsItem (item_of found) →
-    is_ascending (items_of items ++ item_of found ∷ []) ≡ true → take len bytes ≡ item_bytes (item_of found) → rest ≡ drop len bytes → Takes (items_of items) bytes (items_of news) rest
+    is_ascending (items_of items ++ item_of found ∷ []) ≡ true → take len bytes ≡ item_bytes (item_of found) → rest ≡ drop len bytes → TakesItem (items_of items) bytes (items_of news) rest
 takes items news found len bytes rest h more is ascending front after =
     let same = ap items_of more ∙ items_of-push items found in
     record {
@@ -126,7 +126,7 @@ abbrev Answer : Type 0
 Answer = Result (Record × ℕ) RecordFault
 
 abbrev Found : Answer → List ℕ → Type 0
-Found r bytes = IfOk r (λ y. IsRecord (record_of y.0) × (y.1 ≤ length bytes) × (take y.1 bytes ≡ record_bytes (record_of y.0)))
+Found r bytes = IfOk r (λ y. IsRecord (plain_record y.0) × (y.1 ≤ length bytes) × (take y.1 bytes ≡ record_bytes (plain_record y.0)))
 
 abbrev Faulty : Answer → List ℕ → Type 0
 Faulty r bytes = IfErr r (λ e. (e ≡ faults.OutOfMemory) ⊎ IsFault e bytes)
@@ -134,17 +134,17 @@ Faulty r bytes = IfErr r (λ e. (e ≡ faults.OutOfMemory) ⊎ IsFault e bytes)
 front_is : (bytes text : List ℕ) (n : ℕ) → take n bytes ≡ text → bytes ≡ text ++ drop n bytes
 front_is bytes text n e = sym (take-append-drop n bytes) ∙ ap (λ (w : List ℕ). w ++ drop n bytes) e
 
-pub read_as : (r : Answer) (bytes : List ℕ) → Found r bytes → Faulty r bytes → (x : PlainRecord) (rest : List ℕ) → IsRecord x → bytes ≡ record_bytes x ++ rest → IsReadAs r x
+pub read_as : (r : Answer) (bytes : List ℕ) → Found r bytes → Faulty r bytes → (x : PlainRecord) (rest : List ℕ) → IsRecord x → bytes ≡ record_bytes x ++ rest → IsRecordReadAs r x
 read_as (Ok y) bytes found fault x rest h e =
-    let parts = front_is bytes (record_bytes (record_of y.0)) y.1 found.2 in
-    let same = same_record (record_of y.0) x (drop y.1 bytes) rest found.0 h (sym parts ∙ e) in
-    let len : y.1 ≡ length (record_bytes (record_of y.0)) = omega (arith, ap length found.2, length-take y.1 bytes, found.1) in
+    let parts = front_is bytes (record_bytes (plain_record y.0)) y.1 found.2 in
+    let same = same_record (plain_record y.0) x (drop y.1 bytes) rest found.0 h (sym parts ∙ e) in
+    let len : y.1 ≡ length (record_bytes (plain_record y.0)) = omega (arith, ap length found.2, length-take y.1 bytes, found.1) in
     (same, len ∙ ap (λ (z : PlainRecord). length (record_bytes z)) same)
 read_as (Err f) bytes found fault x rest h e =
     elim fault [ inl k ↦ k | inr k ↦ absurd (no_fault x bytes rest f h e k) ]
 
 pub refused_as : (r : Answer) (bytes : List ℕ) → Found r bytes → Faulty r bytes → (fault : RecordFault) → IsFault fault bytes → IsRefusedAs r fault
 refused_as (Ok y) bytes found faulty fault f =
-    no_fault (record_of y.0) bytes (drop y.1 bytes) fault found.0 (front_is bytes (record_bytes (record_of y.0)) y.1 found.2) f
+    no_fault (plain_record y.0) bytes (drop y.1 bytes) fault found.0 (front_is bytes (record_bytes (plain_record y.0)) y.1 found.2) f
 refused_as (Err g) bytes found faulty fault f =
     elim faulty [ inl k ↦ inl k | inr k ↦ inr (one_fault g fault bytes k f) ]

@@ -21,7 +21,8 @@ numbered last (items ∷ commits) = (last + 1, items) ∷ numbered (last + 1) co
 -- their records
 abbrev pub records_of : (last : ℕ) → List (List PlainItem) → List PlainRecord
 records_of last [] = []
-records_of last (items ∷ commits) = TransactionRecord (last + 1) items ∷ records_of (last + 1) commits
+records_of last (items ∷ commits) =
+    TransactionRecord (last + 1) items ∷ records_of (last + 1) commits
 
 -- records one after the other
 abbrev pub records_bytes : List PlainRecord → List ℕ
@@ -50,12 +51,15 @@ pub record CutsRecords (records : List PlainRecord) (bytes : List ℕ) (count : 
   pub most : count ≤ length records
   pub parts : bytes ≡ records_bytes (take count records) ++ tail
   pub is_cut : IsCut tail
-  pub whole : (n : ℕ) → n ≤ length records → length (records_bytes (take n records)) ≤ length bytes → n ≤ count
+  pub whole : (n : ℕ) → n ≤ length records
+      → length (records_bytes (take n records)) ≤ length bytes → n ≤ count
 
 -- The same of commits: the bytes are the records of the first `count`, and a cut record or nothing.
-pub record CutsCommits (last : ℕ) (commits : List (List PlainItem)) (bytes : List ℕ) (count : ℕ) : Type 0 where
+pub record CutsCommits (last : ℕ) (commits : List (List PlainItem)) (bytes : List ℕ)
+    (count : ℕ) : Type 0 where
   pub tail : List ℕ
   pub most : count ≤ length commits
   pub parts : bytes ≡ commits_bytes last (take count commits) ++ tail
   pub is_cut : IsCut tail
-  pub whole : (n : ℕ) → n ≤ length commits → length (commits_bytes last (take n commits)) ≤ length bytes → n ≤ count
+  pub whole : (n : ℕ) → n ≤ length commits
+      → length (commits_bytes last (take n commits)) ≤ length bytes → n ≤ count

@@ -4,7 +4,7 @@ use Rattle.std.specs.Borrow.{Bor}
 use Rattle.byteorder.specs.Endian.{little_number}
 use Rattle.fx_item.specs.Item.{PlainItem, item_bytes, items_of}
 use Rattle.fx_item.specs.declared.item.Item.{Item}
-use Rattle.fx_record.specs.Record.{PlainRecord, AreItems, IsRecord, items_bytes, record_of, body_bytes, record_bytes}
+use Rattle.fx_record.specs.Record.{PlainRecord, AreItems, IsRecord, items_bytes, plain_record, body_bytes, record_bytes}
 use Rattle.fx_record.specs.declared.record.Record.{Record}
 use Rattle.fx_record.specs.declared.record.RecordFault.{RecordFault}
 use Rattle.fx_record.specs.declared.record.RecordFault.TheVariants as faults
@@ -32,8 +32,8 @@ items_at body = drop 13 body
 abbrev pub IsCut : List ℕ → Type 0
 IsCut bytes = length bytes < 4 + stated bytes
 
-abbrev pub IsWhole : List ℕ → Type 0
-IsWhole bytes = 4 + stated bytes ≤ length bytes
+abbrev pub HoldsWhole : List ℕ → Type 0
+HoldsWhole bytes = 4 + stated bytes ≤ length bytes
 
 -- tag 1, and room for the number and the count
 abbrev pub IsTransactionBody : List ℕ → Type 0
@@ -45,7 +45,8 @@ IsDiscardBody body = (slice_index body 0 ≡ 2) × (length body ≡ 9)
 
 -- No item stands at the front of the bytes that may come after these.
 abbrev pub NoneFollows : List PlainItem → List ℕ → Type 0
-NoneFollows items bytes = (x : PlainItem) (rest : List ℕ) → bytes ≡ item_bytes x ++ rest → ¬ AreItems (items ++ x ∷ [])
+NoneFollows items bytes = (x : PlainItem) (rest : List ℕ) → bytes ≡ item_bytes x ++ rest
+    → ¬ AreItems (items ++ x ∷ [])
 
 -- Of bytes that were to hold count items: before this place there are items that ascend. There the
 -- next one is missing, or all are there and bytes are left.
@@ -60,28 +61,32 @@ pub record IsBadItem (count : ℕ) (bytes : List ℕ) (place : ℕ) : Type 0 whe
 -- The body has this fault.
 abbrev pub IsBodyFault : RecordFault → List ℕ → Type 0
 IsBodyFault faults.BadTag body = (¬ IsTransactionBody body) × (¬ IsDiscardBody body)
-IsBodyFault (faults.BadItem place) body = IsTransactionBody body × IsBadItem (count_at body) (items_at body) place
+IsBodyFault (faults.BadItem place) body =
+    IsTransactionBody body × IsBadItem (count_at body) (items_at body) place
 IsBodyFault faults.Cut body = ⊥
 IsBodyFault faults.OutOfMemory body = ⊥
 
 -- The bytes have this fault. No bytes have two.
 abbrev pub IsFault : RecordFault → List ℕ → Type 0
 IsFault faults.Cut bytes = IsCut bytes
-IsFault faults.BadTag bytes = IsWhole bytes × IsBodyFault faults.BadTag (body_at bytes)
-IsFault (faults.BadItem place) bytes = IsWhole bytes × IsBodyFault (faults.BadItem place) (body_at bytes)
+IsFault faults.BadTag bytes = HoldsWhole bytes × IsBodyFault faults.BadTag (body_at bytes)
+IsFault (faults.BadItem place) bytes =
+    HoldsWhole bytes × IsBodyFault (faults.BadItem place) (body_at bytes)
 IsFault faults.OutOfMemory bytes = ⊥
 
 -- ---- the answers
 
 -- One more item was taken from the front of the bytes, and rest is what is left; or none follows.
-pub record Takes (items : List PlainItem) (bytes : List ℕ) (more : List PlainItem) (rest : List ℕ) : Type 0 where
+pub record TakesItem (items : List PlainItem) (bytes : List ℕ) (more : List PlainItem)
+    (rest : List ℕ) : Type 0 where
   pub item : PlainItem
   pub more_is : more ≡ items ++ item ∷ []
   pub are_items : AreItems more
   pub parts : bytes ≡ item_bytes item ++ rest
 
-abbrev pub ItemRead : ℕ → List PlainItem → List ℕ → List PlainItem → Result (Bor (List ℕ)) RecordFault → Type 0
-ItemRead place items bytes more (Ok rest) = Takes items bytes more rest.now
+abbrev pub ItemRead : ℕ → List PlainItem → List ℕ → List PlainItem
+    → Result (Bor (List ℕ)) RecordFault → Type 0
+ItemRead place items bytes more (Ok rest) = TakesItem items bytes more rest.now
 ItemRead place items bytes more (Err (faults.BadItem at)) = (at ≡ place) × NoneFollows items bytes
 ItemRead place items bytes more (Err e) = e ≡ faults.OutOfMemory
 
@@ -101,13 +106,13 @@ abbrev pub IsBodyOf : List ℕ → PlainRecord → Type 0
 IsBodyOf body x = IsRecord x × (body ≡ body_bytes x)
 
 abbrev pub BodyRead : List ℕ → Result Record RecordFault → Type 0
-BodyRead body (Ok x) = IsBodyOf body (record_of x)
+BodyRead body (Ok x) = IsBodyOf body (plain_record x)
 BodyRead body (Err e) = (e ≡ faults.OutOfMemory) ⊎ IsBodyFault e body
 
 -- The record at the front was read as this one, with its length, unless memory ran out.
-abbrev pub IsReadAs : Result (Record × ℕ) RecordFault → PlainRecord → Type 0
-IsReadAs (Ok r) x = (record_of r.0 ≡ x) × (r.1 ≡ length (record_bytes x))
-IsReadAs (Err e) x = e ≡ faults.OutOfMemory
+abbrev pub IsRecordReadAs : Result (Record × ℕ) RecordFault → PlainRecord → Type 0
+IsRecordReadAs (Ok r) x = (plain_record r.0 ≡ x) × (r.1 ≡ length (record_bytes x))
+IsRecordReadAs (Err e) x = e ≡ faults.OutOfMemory
 
 -- The bytes were refused for this fault, unless memory ran out.
 abbrev pub IsRefusedAs : Result (Record × ℕ) RecordFault → RecordFault → Type 0

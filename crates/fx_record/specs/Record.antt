@@ -13,9 +13,9 @@ pub data PlainRecord : Type 0 where
   DiscardRecord : (number : ℕ) → PlainRecord
 
 -- the program's value as plain data
-abbrev pub record_of : Record → PlainRecord
-record_of (records.Txn number items) = TransactionRecord number (items_of items)
-record_of (records.Discard number) = DiscardRecord number
+abbrev pub plain_record : Record → PlainRecord
+plain_record (records.Txn number items) = TransactionRecord number (items_of items)
+plain_record (records.Discard number) = DiscardRecord number
 
 -- Each is an item, and each may follow the one before it.
 pub record AreItems (items : List PlainItem) : Type 0 where
@@ -42,5 +42,6 @@ record_bytes x = little_bytes 4 (length (body_bytes x)) ++ body_bytes x
 
 abbrev pub IsRecord : PlainRecord → Type 0
 IsRecord (TransactionRecord number items) =
-    (number < 2 ^ 64) × AreItems items × (length (body_bytes (TransactionRecord number items)) < 2 ^ 32)
+    (number < 2 ^ 64) × AreItems items
+    × (length (body_bytes (TransactionRecord number items)) < 2 ^ 32)
 IsRecord (DiscardRecord number) = number < 2 ^ 64

@@ -19,28 +19,32 @@ txns_of txns = map (λ t. (t.0, items_of t.1)) txns
 -- A block before runs of blocks: it begins a run, or the first run where that is of the same epoch.
 abbrev pub onto : (ℕ × List ℕ) → List (ℕ × List ℕ) → List (ℕ × List ℕ)
 onto block [] = block ∷ []
-onto block (run ∷ runs) = if block.0 == run.0 then (block.0, block.1 ++ run.1) ∷ runs else block ∷ run ∷ runs
+onto block (run ∷ runs) = if block.0 == run.0 then (block.0, block.1 ++ run.1) ∷ runs
+    else block ∷ run ∷ runs
 
 -- neighbours of one epoch joined
 abbrev pub runs : List (ℕ × List ℕ) → List (ℕ × List ℕ)
 runs [] = []
 runs (block ∷ blocks) = onto block (runs blocks)
 
-abbrev pub texts : List (ℕ × List ℕ) → List (List ℕ)
-texts blocks = map (λ run. run.1) (runs blocks)
+-- the bytes of each run
+abbrev pub epoch_texts : List (ℕ × List ℕ) → List (List ℕ)
+epoch_texts blocks = map (λ run. run.1) (runs blocks)
 
 -- all bytes
-abbrev pub bytes_of : List (ℕ × List ℕ) → List ℕ
-bytes_of blocks = flat_map (λ block. block.1) blocks
+abbrev pub all_bytes : List (ℕ × List ℕ) → List ℕ
+all_bytes blocks = flat_map (λ block. block.1) blocks
 
 -- ---- the records in the texts
 
--- These records stand first in the texts, and end is what is left of the texts after them. What is cut at
--- the end of a text is dropped.
+-- These records stand first in the texts, and end is what is left of the texts after them. What is
+-- cut at the end of a text is dropped.
 pub data Front : List (List ℕ) → List PlainRecord → List (List ℕ) → Type 0 where
   Nothing : {end : List (List ℕ)} → Front end [] end
-  First : {text rest : List ℕ} {more end : List (List ℕ)} {x : PlainRecord} {records : List PlainRecord} →
-      IsRecord x → text ≡ record_bytes x ++ rest → Front (rest ∷ more) records end → Front (text ∷ more) (x ∷ records) end
+  First : {text rest : List ℕ} {more end : List
+      (List ℕ)} {x : PlainRecord} {records : List PlainRecord} →
+      IsRecord x → text ≡ record_bytes x ++ rest → Front (rest ∷ more) records end
+      → Front (text ∷ more) (x ∷ records) end
   Dropped : {text : List ℕ} {more end : List (List ℕ)} {records : List PlainRecord} →
       IsCut text → Front more records end → Front (text ∷ more) records end
 
@@ -72,27 +76,29 @@ abbrev pub put : List (ℕ × List PlainItem) → PlainRecord → List (ℕ × L
 put txns (TransactionRecord number items) = txns ++ (number, items) ∷ []
 put txns (DiscardRecord number) = filter (λ t. nat_le t.0 number) txns
 
-abbrev pub left_by : List PlainRecord → List (ℕ × List PlainItem)
-left_by records = fold put [] records
+abbrev pub txns_left_by : List PlainRecord → List (ℕ × List PlainItem)
+txns_left_by records = fold put [] records
 
 -- The blocks hold records in order from the base on, and these are the transactions that they leave.
-pub record IsTxns (base : ℕ) (blocks : List (ℕ × List ℕ)) (txns : List (ℕ × List PlainItem)) : Type 0 where
+pub record IsTxns (base : ℕ) (blocks : List (ℕ × List ℕ))
+    (txns : List (ℕ × List PlainItem)) : Type 0 where
   pub records : List PlainRecord
-  pub read : Front (texts blocks) records []
+  pub read : Front (epoch_texts blocks) records []
   pub ordered : IsTrue (in_order base base records)
-  pub txns_are : txns ≡ left_by records
+  pub txns_are : txns ≡ txns_left_by records
 
 -- No record stands at the front of the bytes that may come after this number, and they are not cut.
 abbrev pub IsWrong : (base last : ℕ) → List ℕ → Type 0
 IsWrong base last bytes =
-    (¬ IsCut bytes) × ((x : PlainRecord) (rest : List ℕ) → IsRecord x → bytes ≡ record_bytes x ++ rest → may_come base last x ≡ false)
+    (¬ IsCut bytes) × ((x : PlainRecord) (rest : List ℕ) → IsRecord x
+    → bytes ≡ record_bytes x ++ rest → may_come base last x ≡ false)
 
 -- The record at this place, counted from 0 in the stream, is none or has a number out of order.
 pub record IsBadRecord (base : ℕ) (blocks : List (ℕ × List ℕ)) (place : ℕ) : Type 0 where
   pub records : List PlainRecord
   pub text : List ℕ
   pub more : List (List ℕ)
-  pub read : Front (texts blocks) records (text ∷ more)
+  pub read : Front (epoch_texts blocks) records (text ∷ more)
   pub ordered : IsTrue (in_order base base records)
   pub wrong : IsWrong base (last_number base records) text
   pub place_is : length records ≡ place

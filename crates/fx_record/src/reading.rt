@@ -2,8 +2,8 @@
 ghost use Rattle.std.specs.Prelude.{◌≡◌, ◌≤◌, ◌<◌, ◌+◌, ◌^◌, ◌++◌, ◌∷◌, [], ◌⊎◌, ℕ, List, length, take, IfOk, IfErr, IsTrue, MatchResult};
 ghost use Rattle.fx_item.specs.Item.{PlainItem, IsItem, item_of, items_of, item_bytes};
 ghost use Rattle.fx_item.specs.Order.{is_ascending};
-ghost use Rattle.fx_record.specs.Record.{PlainRecord, AreItems, IsRecord, record_of, items_bytes, record_bytes};
-ghost use Rattle.fx_record.specs.Reading.{IsFault, IsReadAs, IsRefusedAs, ItemRead, ItemsRead, BodyRead};
+ghost use Rattle.fx_record.specs.Record.{PlainRecord, AreItems, IsRecord, plain_record, items_bytes, record_bytes};
+ghost use Rattle.fx_record.specs.Reading.{IsFault, IsRecordReadAs, IsRefusedAs, ItemRead, ItemsRead, BodyRead};
 
 use crate::record::{Record, RecordFault};
 use crate::writing::{DISCARD, DISCARD_BODY, LENGTH_BYTES, TRANSACTION, TRANSACTION_BODY};
@@ -15,9 +15,11 @@ use std::alloc::Global;
 /// is at most one. Takes memory for the items that are there, whatever count is stated. One pass.
 pub fn decode_record(alloc: Global, bytes: &[u8]) -> Result<(Record, usize), RecordFault>
     // What is read is a record, and these bytes are its bytes.
-    ensures found { IfOk result (λ r. IsRecord (record_of r.0) × (r.1 ≤ length bytes.now) × (take r.1 bytes.now ≡ record_bytes (record_of r.0))) }
+    ensures found { IfOk result (λ r. IsRecord (plain_record r.0) × (r.1 ≤ length bytes.now)
+        × (take r.1 bytes.now ≡ record_bytes (plain_record r.0))) }
     // What begins with a record's bytes is read as that record, unless memory runs out.
-    ensures only { (x : PlainRecord) (rest : List ℕ) → IsRecord x → bytes.now ≡ record_bytes x ++ rest → IsReadAs result x }
+    ensures only { (x : PlainRecord) (rest : List ℕ) → IsRecord x
+        → bytes.now ≡ record_bytes x ++ rest → IsRecordReadAs result x }
     // A fault that is told is there.
     ensures fault { IfErr result (λ e. (e ≡ RecordFault.OutOfMemory) ⊎ IsFault e bytes.now) }
     // A fault that is there is told, unless memory runs out.
@@ -27,7 +29,8 @@ pub fn decode_record(alloc: Global, bytes: &[u8]) -> Result<(Record, usize), Rec
 }
 
 fn read_record(alloc: Global, bytes: &[u8]) -> Result<(Record, usize), RecordFault>
-    ensures found { IfOk result (λ r. IsRecord (record_of r.0) × (r.1 ≤ length bytes.now) × (take r.1 bytes.now ≡ record_bytes (record_of r.0))) }
+    ensures found { IfOk result (λ r. IsRecord (plain_record r.0) × (r.1 ≤ length bytes.now)
+        × (take r.1 bytes.now ≡ record_bytes (plain_record r.0))) }
     ensures fault { IfErr result (λ e. (e ≡ RecordFault.OutOfMemory) ⊎ IsFault e bytes.now) }
 {
     if bytes.len() < LENGTH_BYTES {
@@ -97,7 +100,8 @@ fn read_item<'a>(
     bytes: &'a [u8],
 ) -> Result<&'a [u8], RecordFault>
     requires { AreItems (items_of items.old.items) }
-    ensures { ItemRead place (items_of items.old.items) bytes.now (items_of items.new.items) result }
+    ensures { ItemRead place (items_of items.old.items) bytes.now
+        (items_of items.new.items) result }
 {
     let (item, len) = match decode(alloc, bytes) {
         Ok(found) => found,

@@ -1,9 +1,9 @@
 //! Records, lists of transactions, and what can be wrong with bytes that are read as a record.
 ghost use Rattle.std.specs.Prelude.{◌≡◌, length};
 
+use fx_base::List;
 use fx_item::Items;
 use std::alloc::{AllocError, AllocFailed};
-use std::marker::Model;
 use thiserror::Error;
 
 /// A record of the journal.
@@ -55,41 +55,5 @@ impl<T: Drop> From<AllocFailed<T>> for RecordFault {
     }
 }
 
-/// Transactions in their order, each a number and its items. Made from a `Vec` and given back without
-/// taking memory.
-#[derive(Debug, Drop)]
-pub struct Txns {
-    txns: Vec<(u64, Items)>,
-}
-
-impl Model for Txns {
-    ghost use Rattle.std.specs.Prelude.{List, ℕ};
-    ghost use Rattle.fx_item.specs.declared.item.Item.{Item};
-
-    ghost Value = { List (ℕ × List Item) };
-
-    ghost view = { λ t. t.txns.items };
-}
-
-impl Txns {
-    /// These transactions.
-    pub fn new(txns: Vec<(u64, Items)>) -> Txns
-        ensures { result ≡ txns.items }
-    {
-        Txns { txns }
-    }
-
-    /// The transactions as a slice.
-    pub fn as_slice(&self) -> &[(u64, Items)]
-        ensures { result.now ≡ self.now }
-    {
-        self.txns.as_slice()
-    }
-
-    /// The vector that holds them.
-    pub fn into_vec(self) -> Vec<(u64, Items)>
-        ensures { result.items ≡ self }
-    {
-        self.txns
-    }
-}
+/// Transactions in their order, each a number and its items.
+pub type Txns = List<(u64, Items)>;

@@ -1,4 +1,4 @@
-ghost use Rattle.fx_record.specs.Record.{IsRecord, record_of};
+ghost use Rattle.fx_record.specs.Record.{IsRecord, plain_record};
 
 use super::*;
 use fx_item::{Bytes, Item, Key, Value};
@@ -60,7 +60,7 @@ fn expect_made(rt: &impl Abort, record: &Record, wanted: u64) {
 
 /// The bytes of a record, and of one with another number if it is a transaction.
 fn renumbered(alloc: Global, rec: &Record, number: u64) -> Result<Vec<u8>, Fail>
-    requires { IsRecord (record_of rec.now) }
+    requires { IsRecord (plain_record rec.now) }
 {
     let mut bytes = Vec::new(alloc);
     encode_record(rec, &mut bytes)?;

@@ -1,9 +1,9 @@
 //! The transactions that a stream of records leaves.
 ghost use Rattle.std.specs.Prelude.{◌≡◌, ◌≤◌, ◌<◌, ◌+◌, ◌^◌, ◌∷◌, [], ℕ, List, length, take, drop, IfOk, OnOk, IsTrue, IsFalse};
 ghost use Rattle.fx_item.specs.Item.{PlainItem, items_of};
-ghost use Rattle.fx_record.specs.Record.{PlainRecord, TransactionRecord, DiscardRecord, record_of};
-ghost use Rattle.fx_record.specs.Txns.{pieces_of, txns_of, texts, bytes_of, may_come, IsTxns, IsBadRecord};
-ghost use Rattle.fx_record.specs.Progress.{state_of, after, Numbered, NextRead, RunRead, IsAnswer, Gave, Told};
+ghost use Rattle.fx_record.specs.Record.{PlainRecord, TransactionRecord, DiscardRecord, plain_record};
+ghost use Rattle.fx_record.specs.Txns.{pieces_of, txns_of, epoch_texts, all_bytes, may_come, IsTxns, IsBadRecord};
+ghost use Rattle.fx_record.specs.Progress.{read_state, state_after, Numbered, NextRead, RunRead, IsAnswer, Gave, Told};
 
 use crate::reading::decode_record;
 use crate::record::{Record, RecordFault, Txns};
@@ -70,21 +70,23 @@ struct Progress {
 /// past `k`, which is at least `base` and at most the number before, the next one is `k + 1`. There are
 /// fewer than 2^32 bytes (`is_short`). Costs their number: each is copied once.
 pub fn read_txns(alloc: Global, base: u64, pieces: &[Piece]) -> Result<Txns, TxnsFault>
-    requires { length (bytes_of (pieces_of pieces.now)) < 2 ^ 32 }
+    requires { length (all_bytes (pieces_of pieces.now)) < 2 ^ 32 }
     // What is answered is so: the transactions, or the first bad record.
     ensures answer { IsAnswer base (pieces_of pieces.now) result }
     // The transactions are answered where there are such, unless memory runs out.
-    ensures all { (txns : List (ℕ × List PlainItem)) → IsTxns base (pieces_of pieces.now) txns → Gave result txns }
+    ensures all { (txns : List (ℕ × List PlainItem)) → IsTxns base (pieces_of pieces.now) txns
+        → Gave result txns }
     // A bad record is told where there is one, unless memory runs out.
-    ensures bad { (place : ℕ) → IsBadRecord base (pieces_of pieces.now) place → Told result place }
+    ensures bad { (place : ℕ) → IsBadRecord base (pieces_of pieces.now) place
+        → Told result place }
 {
     read_all(alloc, base, pieces)
 }
 
 /// Whether there are fewer than 2^32 record bytes in these blocks, as `read_txns` wants. One step a block.
 pub fn is_short(pieces: &[Piece]) -> bool
-    ensures short { IsTrue result → length (bytes_of (pieces_of pieces.now)) < 2 ^ 32 }
-    ensures long { IsFalse result → 2 ^ 32 ≤ length (bytes_of (pieces_of pieces.now)) }
+    ensures short { IsTrue result → length (all_bytes (pieces_of pieces.now)) < 2 ^ 32 }
+    ensures long { IsFalse result → 2 ^ 32 ≤ length (all_bytes (pieces_of pieces.now)) }
 {
     let mut room = u32::MAX as usize;
     for piece in pieces {
@@ -98,7 +100,7 @@ pub fn is_short(pieces: &[Piece]) -> bool
 }
 
 fn read_all(alloc: Global, base: u64, pieces: &[Piece]) -> Result<Txns, TxnsFault>
-    requires { length (bytes_of (pieces_of pieces.now)) < 2 ^ 32 }
+    requires { length (all_bytes (pieces_of pieces.now)) < 2 ^ 32 }
     ensures { IsAnswer base (pieces_of pieces.now) result }
 {
     let mut progress = Progress {
@@ -121,7 +123,9 @@ fn run_len(pieces: &[Piece]) -> usize
     requires { 1 ≤ length pieces.now }
     ensures some { 1 ≤ result }
     ensures most { result ≤ length pieces.now }
-    ensures run { texts (pieces_of pieces.now) ≡ bytes_of (pieces_of (take result pieces.now)) ∷ texts (pieces_of (drop result pieces.now)) }
+    ensures run { epoch_texts (pieces_of pieces.now)
+        ≡ all_bytes (pieces_of (take result pieces.now))
+        ∷ epoch_texts (pieces_of (drop result pieces.now)) }
 {
     let epoch = pieces[0].epoch;
     for (i, piece) in pieces.iter().enumerate() {
@@ -134,8 +138,8 @@ fn run_len(pieces: &[Piece]) -> usize
 
 /// The record bytes of these blocks, one after the other.
 fn join(alloc: Global, run: &[Piece]) -> Result<Vec<u8>, AllocError>
-    requires { length (bytes_of (pieces_of run.now)) < 2 ^ 32 }
-    ensures { IfOk result (λ v. v.items ≡ bytes_of (pieces_of run.now)) }
+    requires { length (all_bytes (pieces_of run.now)) < 2 ^ 32 }
+    ensures { IfOk result (λ v. v.items ≡ all_bytes (pieces_of run.now)) }
 {
     let mut text = Vec::with_capacity(alloc, joined_len(run))?;
     for piece in run {
@@ -146,8 +150,8 @@ fn join(alloc: Global, run: &[Piece]) -> Result<Vec<u8>, AllocError>
 
 /// How many record bytes these blocks have.
 fn joined_len(run: &[Piece]) -> usize
-    requires { length (bytes_of (pieces_of run.now)) < 2 ^ 32 }
-    ensures { result ≡ length (bytes_of (pieces_of run.now)) }
+    requires { length (all_bytes (pieces_of run.now)) < 2 ^ 32 }
+    ensures { result ≡ length (all_bytes (pieces_of run.now)) }
 {
     let mut len = 0;
     for piece in run {
@@ -158,9 +162,9 @@ fn joined_len(run: &[Piece]) -> usize
 
 /// Takes the records from the bytes of one epoch.
 fn read_run(alloc: Global, base: u64, progress: &mut Progress, text: &[u8]) -> Result<(), TxnsFault>
-    requires numbered { Numbered base (state_of progress.old) }
+    requires numbered { Numbered base (read_state progress.old) }
     requires room { progress.old.read + length text.now < 2 ^ 32 }
-    ensures { RunRead base (state_of progress.old) text.now (state_of progress.new) result }
+    ensures { RunRead base (read_state progress.old) text.now (read_state progress.new) result }
 {
     let mut rest = text;
     while let Some(left) = read_next(alloc, base, progress, rest)? {
@@ -176,9 +180,9 @@ fn read_next<'a>(
     progress: &mut Progress,
     bytes: &'a [u8],
 ) -> Result<Option<&'a [u8]>, TxnsFault>
-    requires numbered { Numbered base (state_of progress.old) }
+    requires numbered { Numbered base (read_state progress.old) }
     requires room { progress.old.read + length bytes.now < 2 ^ 32 }
-    ensures { NextRead base (state_of progress.old) bytes.now (state_of progress.new) result }
+    ensures { NextRead base (read_state progress.old) bytes.now (read_state progress.new) result }
 {
     let (record, len) = match decode_record(alloc, bytes) {
         Ok(found) => found,
@@ -196,7 +200,7 @@ fn read_next<'a>(
 
 /// Whether a record may come after the number `last`.
 fn may_come(base: u64, last: u64, record: &Record) -> bool
-    ensures { result ≡ may_come base last (record_of «record».now) }
+    ensures { result ≡ may_come base last (plain_record «record».now) }
 {
     match record {
         Record::Txn { number, .. } => last < *number && *number - last == 1,
@@ -207,11 +211,12 @@ fn may_come(base: u64, last: u64, record: &Record) -> bool
 impl Progress {
     /// Takes one more record, whose number is in order.
     fn put(&mut self, base: u64, record: Record) -> Result<(), AllocError>
-        requires numbered { Numbered base (state_of self.old) }
+        requires numbered { Numbered base (read_state self.old) }
         requires room { self.old.read + 1 < 2 ^ 32 }
-        requires comes { IsTrue (may_come base self.old.last (record_of «record»)) }
-        ensures moved { OnOk result (state_of self.new ≡ after (state_of self.old) (record_of «record»)) }
-        ensures numbered { OnOk result (Numbered base (state_of self.new)) }
+        requires comes { IsTrue (may_come base self.old.last (plain_record «record»)) }
+        ensures moved { OnOk result (read_state self.new
+            ≡ state_after (read_state self.old) (plain_record «record»)) }
+        ensures numbered { OnOk result (Numbered base (read_state self.new)) }
     {
         match record {
             Record::Txn { number, items } => self.add(base, number, items),
@@ -223,11 +228,12 @@ impl Progress {
     }
 
     fn add(&mut self, base: u64, number: u64, items: Items) -> Result<(), AllocError>
-        requires numbered { Numbered base (state_of self.old) }
+        requires numbered { Numbered base (read_state self.old) }
         requires room { self.old.read + 1 < 2 ^ 32 }
         requires next { number ≡ self.old.last + 1 }
-        ensures moved { OnOk result (state_of self.new ≡ after (state_of self.old) (TransactionRecord number (items_of items))) }
-        ensures numbered { OnOk result (Numbered base (state_of self.new)) }
+        ensures moved { OnOk result (read_state self.new
+            ≡ state_after (read_state self.old) (TransactionRecord number (items_of items))) }
+        ensures numbered { OnOk result (Numbered base (read_state self.new)) }
     {
         self.txns.push((number, items))?;
         self.last = number;
@@ -238,12 +244,13 @@ impl Progress {
     /// Drops the transactions past a number. They are numbered from `base` on, so that those up to it are
     /// known by their count.
     fn discard(&mut self, base: u64, number: u64)
-        requires numbered { Numbered base (state_of self.old) }
+        requires numbered { Numbered base (read_state self.old) }
         requires room { self.old.read + 1 < 2 ^ 32 }
         requires least { base ≤ number }
         requires most { number ≤ self.old.last }
-        ensures moved { state_of self.new ≡ after (state_of self.old) (DiscardRecord number) }
-        ensures numbered { Numbered base (state_of self.new) }
+        ensures moved { read_state self.new
+            ≡ state_after (read_state self.old) (DiscardRecord number) }
+        ensures numbered { Numbered base (read_state self.new) }
     {
         self.txns.truncate((number - base) as usize);
         self.last = number;

@@ -2,7 +2,7 @@
 ghost use Rattle.std.specs.Prelude.{◌≡◌, ◌<◌, ◌^◌, ◌++◌, ◌∷◌, ℕ, List, length, take, All, OnOk, OnErr};
 ghost use Rattle.byteorder.specs.Endian.{little_bytes};
 ghost use Rattle.fx_item.specs.Item.{PlainItem, IsItem, items_of};
-ghost use Rattle.fx_record.specs.Record.{TransactionRecord, IsRecord, DiscardRecord, record_of, items_bytes, record_bytes};
+ghost use Rattle.fx_record.specs.Record.{TransactionRecord, IsRecord, DiscardRecord, plain_record, items_bytes, record_bytes};
 ghost use Rattle.fx_record.specs.Writing.{head_bytes, HoldsTransaction};
 
 use crate::record::Record;
@@ -38,8 +38,9 @@ const NUMBER_AT: usize = 5;
 /// follows the length has fewer than 2^32 bytes. Where memory is refused `into` is as before. Two passes over
 /// the items.
 pub fn encode_record(rec: &Record, into: &mut Vec<u8>) -> Result<(), AllocError>
-    requires { IsRecord (record_of rec.now) }
-    ensures ok { OnOk result (into.new.items ≡ into.old.items ++ record_bytes (record_of rec.now)) }
+    requires { IsRecord (plain_record rec.now) }
+    ensures ok { OnOk result (into.new.items
+        ≡ into.old.items ++ record_bytes (plain_record rec.now)) }
     ensures err { OnErr result (into.new.items ≡ into.old.items) }
 {
     let before = into.len();
@@ -52,8 +53,9 @@ pub fn encode_record(rec: &Record, into: &mut Vec<u8>) -> Result<(), AllocError>
 
 /// Appends the bytes of a record, or some of them where memory is refused.
 fn append_record(rec: &Record, into: &mut Vec<u8>) -> Result<(), AllocError>
-    requires { IsRecord (record_of rec.now) }
-    ensures ok { OnOk result (into.new.items ≡ into.old.items ++ record_bytes (record_of rec.now)) }
+    requires { IsRecord (plain_record rec.now) }
+    ensures ok { OnOk result (into.new.items
+        ≡ into.old.items ++ record_bytes (plain_record rec.now)) }
     ensures err { OnErr result (take (length into.old.items) into.new.items ≡ into.old.items) }
 {
     match rec {
@@ -64,7 +66,8 @@ fn append_record(rec: &Record, into: &mut Vec<u8>) -> Result<(), AllocError>
 
 fn append_transaction(number: u64, items: &[Item], into: &mut Vec<u8>) -> Result<(), AllocError>
     requires { IsRecord (TransactionRecord number (items_of items.now)) }
-    ensures ok { OnOk result (into.new.items ≡ into.old.items ++ record_bytes (TransactionRecord number (items_of items.now))) }
+    ensures ok { OnOk result (into.new.items
+        ≡ into.old.items ++ record_bytes (TransactionRecord number (items_of items.now))) }
     ensures err { OnErr result (take (length into.old.items) into.new.items ≡ into.old.items) }
 {
     let body = TRANSACTION_BODY + items_len(items);
@@ -76,7 +79,8 @@ fn append_transaction(number: u64, items: &[Item], into: &mut Vec<u8>) -> Result
 }
 
 fn append_discard(number: u64, into: &mut Vec<u8>) -> Result<(), AllocError>
-    ensures ok { OnOk result (into.new.items ≡ into.old.items ++ record_bytes (DiscardRecord number)) }
+    ensures ok { OnOk result (into.new.items
+        ≡ into.old.items ++ record_bytes (DiscardRecord number)) }
     ensures err { OnErr result (into.new.items ≡ into.old.items) }
 {
     let mut bytes = [0; DISCARD_BYTES];
@@ -124,9 +128,9 @@ fn fill_discard(number: u64, into: &mut [u8])
 
 /// How many bytes a record has: fewer than 2^32. One pass over the items, no memory.
 pub fn length(rec: &Record) -> u32
-    requires kept { IsRecord (record_of rec.now) }
-    requires short { length (record_bytes (record_of rec.now)) < 2 ^ 32 }
-    ensures { result ≡ length (record_bytes (record_of rec.now)) }
+    requires kept { IsRecord (plain_record rec.now) }
+    requires short { length (record_bytes (plain_record rec.now)) < 2 ^ 32 }
+    ensures { result ≡ length (record_bytes (plain_record rec.now)) }
 {
     match rec {
         Record::Txn { items, .. } => (HEAD_BYTES + items_len(items.as_slice())) as u32,
@@ -151,7 +155,8 @@ fn items_len(items: &[Item]) -> usize
 /// else. No memory.
 pub fn set_number(bytes: &mut [u8], number: u64)
     requires { HoldsTransaction bytes.old }
-    ensures { (old : ℕ) (items : List PlainItem) (rest : List ℕ) → bytes.old ≡ record_bytes (TransactionRecord old items) ++ rest
+    ensures { (old : ℕ) (items : List PlainItem) (rest : List ℕ)
+        → bytes.old ≡ record_bytes (TransactionRecord old items) ++ rest
         → bytes.new ≡ record_bytes (TransactionRecord number items) ++ rest }
 {
     let (_, rest) = bytes.split_at_mut(NUMBER_AT);

@@ -128,7 +128,9 @@ after_version f =
     sizes f.blocks f.generation f.ring
     ++ (counters f.sequence f.chain f.base f.next_id f.next_store
     (length f.objects) (length f.allocs)
-    ++ (layer_bytes f.objects ++ (layer_bytes f.allocs ++ (little_bytes 8 f.floor ++ super_padding))))
+    ++ (layer_bytes f.objects
+    ++ (layer_bytes f.allocs
+    ++ (little_bytes 8 f.floor ++ super_padding))))
 
 -- all of a superblock but its sum
 unfoldable pub super_body : Fields → List ℕ

@@ -3,7 +3,7 @@ use Rattle.std.specs.Prelude.{IfNone, IfSome}
 use Rattle.fx_item.specs.Look.{value_in}
 use Rattle.fx_namespace.specs.Nodes.{Stands}
 use Rattle.fx_namespace.specs.Wrong.{IsLeastWrong}
-use Rattle.fx_nodes.specs.Faults.{IsLeastOf}
+use Rattle.fx_nodes.specs.Faults.{IsLeastNode}
 use Rattle.fx_nodes.specs.Table.{AreKept}
 use Rattle.fx_nodes.proofs.Judged.{all_stand, least_wrong}
 use Rattle.fx_nodes.proofs.checking.check.Goals as goal
@@ -24,10 +24,10 @@ pub returns-clause-wrong : goal.returns-clause-wrong
 returns-clause-wrong c =
     let w = (goal.at.returns-clause-wrong c).After-least in
     subst (λ items. IfSome w.least.result (λ node. IsLeastWrong (value_in items) node)) w.in_ok-graph.ensures.items
-    (least_wrong (kept w) w.in_ok-wrong.ensures w.in_ok-led_twice.ensures w.in_ok-lost.ensures w.in_ok-too_deep.ensures w.least.result (subst (λ ns. IsLeastOf ns w.least.result) (gathered w) w.least.ensures))
+    (least_wrong (kept w) w.in_ok-wrong.ensures w.in_ok-led_twice.ensures w.in_ok-lost.ensures w.in_ok-too_deep.ensures w.least.result (subst (λ ns. IsLeastNode ns w.least.result) (gathered w) w.least.ensures))
 
 pub returns-clause-stands : goal.returns-clause-stands
 returns-clause-stands c =
     let w = (goal.at.returns-clause-stands c).After-least in
     subst (λ items. IfNone w.least.result (Stands (value_in items))) w.in_ok-graph.ensures.items
-    (all_stand (kept w) w.in_ok-wrong.ensures w.in_ok-led_twice.ensures w.in_ok-lost.ensures w.in_ok-too_deep.ensures w.least.result (subst (λ ns. IsLeastOf ns w.least.result) (gathered w) w.least.ensures))
+    (all_stand (kept w) w.in_ok-wrong.ensures w.in_ok-led_twice.ensures w.in_ok-lost.ensures w.in_ok-too_deep.ensures w.least.result (subst (λ ns. IsLeastNode ns w.least.result) (gathered w) w.least.ensures))

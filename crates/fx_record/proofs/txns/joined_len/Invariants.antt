@@ -1,7 +1,7 @@
 use Rattle.std.proofs.Common.{◌≡◌, ◌+◌, length, drop}
-use Rattle.fx_record.specs.Txns.{pieces_of, bytes_of}
+use Rattle.fx_record.specs.Txns.{pieces_of, all_bytes}
 use Rattle.fx_record.proofs.txns.joined_len.Given as goal
 
 abbrev pub invariant-loop-piece : goal.invariant-loop-piece
 invariant-loop-piece l =
-    l.len + length (bytes_of (pieces_of (drop l.piece-index l.run))) ≡ length (bytes_of (pieces_of l.run))
+    l.len + length (all_bytes (pieces_of (drop l.piece-index l.run))) ≡ length (all_bytes (pieces_of l.run))

@@ -2,9 +2,9 @@ use Rattle.std.proofs.Common.{List, ◌≡◌, ◌∷◌, ◌+◌, ◌∙◌, le
 use Rattle.std.proofs.lemmas.Bool.{eqb-true}
 use Rattle.std.proofs.lemmas.List.{nil_from_length}
 use Rattle.std.proofs.lemmas.Result.{err_from_is_err_and}
-use Rattle.fx_record.specs.Txns.{pieces_of, txns_of, texts, bytes_of}
+use Rattle.fx_record.specs.Txns.{pieces_of, txns_of, epoch_texts, all_bytes}
 use Rattle.fx_record.specs.declared.txns.Piece.{Piece}
-use Rattle.fx_record.specs.Progress.{State, state_of, Advance}
+use Rattle.fx_record.specs.Progress.{ReadState, read_state, Advance}
 use Rattle.fx_record.proofs.Runs.{next_text, next_len}
 use Rattle.fx_record.proofs.Moves.{start_of, start_is, starts_numbered, advance_none, read_stops, ends_with, stream_goes_on}
 use Rattle.fx_record.proofs.txns.read_all.Goals as goal
@@ -13,7 +13,7 @@ pub loop-rest-init : goal.loop-rest-init
 loop-rest-init c =
     let blocks = pieces_of c.args.pieces.now in
     record {
-      advance = subst (λ (w : State). Advance c.args.base (start_of c.args.base) (texts blocks) w (texts blocks)) (sym (start_is c.args.base c.new.result.items c.new.ensures.items)) (advance_none c.args.base (start_of c.args.base) (texts blocks));
+      advance = subst (λ (w : ReadState). Advance c.args.base (start_of c.args.base) (epoch_texts blocks) w (epoch_texts blocks)) (sym (start_is c.args.base c.new.result.items c.new.ensures.items)) (advance_none c.args.base (start_of c.args.base) (epoch_texts blocks));
       numbered = starts_numbered c.args.base c.new.result.items c.new.ensures.items;
       few = omega arith;
     }
@@ -24,9 +24,9 @@ returns-in_err-read_run c =
     let rest = c.loop-rest.rest.now in
     let others = c.split_at.result.1.now in
     let text = c.as_slice.result.now in
-    let next : texts (pieces_of rest) ≡ text ∷ texts (pieces_of others) =
+    let next : epoch_texts (pieces_of rest) ≡ text ∷ epoch_texts (pieces_of others) =
     next_text rest c.split_at.result.0.now others c.run_len.result text c.run_len.ensures.run c.split_at.ensures.front c.split_at.ensures.back (c.as_slice.ensures.value ∙ c.in_ok-text.ensures) in
-    rw (p.1, p.2) (read_stops c.in_err-read_run.field-0.0 c.args.base (pieces_of c.args.pieces.now) (state_of c.loop-rest.progress) (state_of c.read_run.new.progress) (texts (pieces_of rest)) text (texts (pieces_of others))
+    rw (p.1, p.2) (read_stops c.in_err-read_run.field-0.0 c.args.base (pieces_of c.args.pieces.now) (read_state c.loop-rest.progress) (read_state c.read_run.new.progress) (epoch_texts (pieces_of rest)) text (epoch_texts (pieces_of others))
     c.loop-rest.invariant.advance next c.in_err-read_run.ensures)
 
 pub loop-rest-preserved : goal.loop-rest-preserved
@@ -36,12 +36,12 @@ loop-rest-preserved c =
     let others = c.split_at.result.1.now in
     let text = c.as_slice.result.now in
     let joined = c.as_slice.ensures.value ∙ c.in_ok-text.ensures in
-    let next : texts (pieces_of rest) ≡ text ∷ texts (pieces_of others) =
+    let next : epoch_texts (pieces_of rest) ≡ text ∷ epoch_texts (pieces_of others) =
     next_text rest run others c.run_len.result text c.run_len.ensures.run c.split_at.ensures.front c.split_at.ensures.back joined in
-    let len : length (bytes_of (pieces_of rest)) ≡ length text + length (bytes_of (pieces_of others)) =
+    let len : length (all_bytes (pieces_of rest)) ≡ length text + length (all_bytes (pieces_of others)) =
     next_len rest run others c.run_len.result text c.split_at.ensures.front c.split_at.ensures.back joined in
     record {
-      advance = stream_goes_on c.args.base (state_of c.loop-rest.progress) (state_of c.read_run.new.progress) (pieces_of c.args.pieces.now) (texts (pieces_of rest)) text (texts (pieces_of others)) c.loop-rest.invariant.advance next c.in_ok-read_run.ensures;
+      advance = stream_goes_on c.args.base (read_state c.loop-rest.progress) (read_state c.read_run.new.progress) (pieces_of c.args.pieces.now) (epoch_texts (pieces_of rest)) text (epoch_texts (pieces_of others)) c.loop-rest.invariant.advance next c.in_ok-read_run.ensures;
       numbered = c.in_ok-read_run.ensures.numbered;
       few = omega (arith, c.in_ok-read_run.ensures.few, c.loop-rest.invariant.few, len);
     }
@@ -49,5 +49,5 @@ loop-rest-preserved c =
 pub returns : goal.returns
 returns c =
     let none = nil_from_length c.loop-rest.rest.now (eqb-true _ _ (sym c.loop-rest-test.ensures)) in
-    ends_with c.args.base (pieces_of c.args.pieces.now) (state_of c.loop-rest.progress) (texts (pieces_of c.loop-rest.rest.now)) c.new-2.result
-    c.loop-rest.invariant.advance (ap (λ (w : List Piece). texts (pieces_of w)) none) (ap txns_of c.new-2.ensures)
+    ends_with c.args.base (pieces_of c.args.pieces.now) (read_state c.loop-rest.progress) (epoch_texts (pieces_of c.loop-rest.rest.now)) c.new-2.result
+    c.loop-rest.invariant.advance (ap (λ (w : List Piece). epoch_texts (pieces_of w)) none) (ap txns_of c.new-2.ensures)

@@ -1,11 +1,11 @@
 use Rattle.std.proofs.Common.{◌+◌, ◌≤◌, List, ℕ, ◌∷◌, length}
-use Rattle.fx_record.specs.Progress.{state_of, Numbered, Advance}
+use Rattle.fx_record.specs.Progress.{read_state, Numbered, Advance}
 use Rattle.fx_record.proofs.txns.read_run.Given as goal
 
 abbrev pub invariant-loop-left : goal.invariant-loop-left
 invariant-loop-left l = record {
-  advance : (more : List (List ℕ)) → Advance l.base (state_of l.fn.progress) (l.text ∷ more) (state_of l.progress) (l.rest ∷ more);
-  numbered : Numbered l.base (state_of l.progress);
+  advance : (more : List (List ℕ)) → Advance l.base (read_state l.fn.progress) (l.text ∷ more) (read_state l.progress) (l.rest ∷ more);
+  numbered : Numbered l.base (read_state l.progress);
   few : l.progress.read + length l.rest ≤ l.fn.progress.read + length l.text;
 }
 

@@ -1,14 +1,14 @@
 use Rattle.std.proofs.Common.{◌≡◌, ◌∙◌, ◌+◌, ℕ, List, sym, ap, length, arith}
 use Rattle.fx_item.specs.Item.{items_of}
 use Rattle.fx_item.specs.declared.item.Item.{Item}
-use Rattle.fx_record.specs.Record.{items_bytes, record_bytes, record_of}
+use Rattle.fx_record.specs.Record.{items_bytes, record_bytes, plain_record}
 use Rattle.fx_record.specs.declared.record.Record.{Record}
 use Rattle.fx_record.specs.declared.record.Record.TheVariants as records
 use Rattle.fx_record.proofs.Steps.{transaction_text, discard_text}
 use Rattle.fx_record.proofs.writing.length.Goals as goal
 
-long : (r : Record) (number : ℕ) (items : List Item) → r ≡ (let t : Record = records.Txn number items in t) → length (record_bytes (record_of r)) ≡ 17 + length (items_bytes (items_of items))
-long r number items e = ap (λ (t : Record). length (record_bytes (record_of t))) e ∙ transaction_text number (items_of items)
+long : (r : Record) (number : ℕ) (items : List Item) → r ≡ (let t : Record = records.Txn number items in t) → length (record_bytes (plain_record r)) ≡ 17 + length (items_bytes (items_of items))
+long r number items e = ap (λ (t : Record). length (record_bytes (plain_record t))) e ∙ transaction_text number (items_of items)
 
 pub items_len-requires-clause-short : goal.items_len-requires-clause-short
 items_len-requires-clause-short c =
@@ -28,4 +28,4 @@ returns-in-Txn c =
 
 pub returns-in-Discard : goal.returns-in-Discard
 returns-in-Discard c =
-    sym (ap (λ (t : Record). length (record_bytes (record_of t))) c.in-Discard.is ∙ discard_text c.in-Discard.number)
+    sym (ap (λ (t : Record). length (record_bytes (plain_record t))) c.in-Discard.is ∙ discard_text c.in-Discard.number)
