@@ -1,27 +1,31 @@
 -- What the blocks of a stream hold, or why they are refused.
 use Rattle.std.proofs.Common.{◌≡◌, ◌≢◌, ℕ, ◌+◌, ◌*◌, ◌<◌, ◌≤◌, ◌^◌, List, [], ◌∷◌, length, length-append, refl, sym, ap, subst, ◌∙◌, arith}
-use Rattle.std.specs.Prelude.{IfSome, Option}
+use Rattle.std.specs.Prelude.{IfSome}
 use Rattle.std.proofs.Math.Path.{fun_ext}
-use Rattle.fx_item.specs.Look.{ItemMap, value_in}
+use Rattle.fx_item.specs.Look.{ItemMap, next_id_after, next_store_after, value_in}
 use Rattle.fx_plain.specs.Tree.{Tree}
 use Rattle.fx_namespace.specs.Nodes.{NodeId, Stands}
 use Rattle.fx_namespace.specs.Trees.{IsTreeOf, bare}
 use Rattle.fx_namespace.specs.Wrong.{IsLeastWrong}
 use Rattle.fx_nodes.specs.Table.{PlainTable}
 use Rattle.fx_super.specs.Super.{Fields}
-use Rattle.fx_disk.specs.Record.{DiskRecord}
+use Rattle.fx_disk.specs.Seen.{DiskSeen}
 use Rattle.fx_jblock.specs.declared.Start.{Start}
 use Rattle.fx_journal.specs.Stream.{IsSeries, place_after}
 use Rattle.fx_journal.specs.declared.stream.StreamBlock.{StreamBlock}
-use Rattle.fx_record.specs.Txns.{IsTxns, all_bytes}
-use Rattle.fx_image.specs.Standing.{HasSessionRoom, StandsFor, Transactions, items_after, stream_pieces}
+use Rattle.fx_record.specs.Txns.{IsTxns, bytes_of, txns_of}
+use Rattle.fx_image.specs.Standing.{HasSessionRoom, StandsFor, Transactions, items_after, kept, lists_of, stream_pieces}
+use Rattle.fx_log.specs.Chosen.{ChoosesSuper, start_of}
 use Rattle.fx_mount.specs.declared.fault.MountFault.{MountFault}
 use Rattle.fx_mount.specs.declared.fault.MountFault.TheVariants as faults
 use Rattle.fx_mount.specs.declared.fault.MountFault.TheVariants.{BadTree, Cramped}
-use Rattle.fx_mount.specs.Found.{HasStream, HasSuper, IsMountCause, IsRefused}
+use Rattle.fx_mount.specs.Found.{CanGoOn, HasReadWell, HasStream, HasSuper, IsMountCause, IsRefused}
 use Rattle.fx_store.specs.Nodes.{NodeTable}
 use Rattle.fx_store.specs.Session.{KnowsNodes}
-use Rattle.fx_mount.specs.Reading.{IsGathered, IsReadFault}
+use Rattle.fx_mount.specs.Reading.{IsGathered, IsReadFault, IsStreamOf}
+use Rattle.fx_store.specs.Opening.{IsRead}
+use Rattle.fx_store.specs.declared.opening.Contents.{Contents}
+use Rattle.fx_store.proofs.Keeps.{if-both}
 
 module _ (f : Fields) (blocks : List StreamBlock) (txns : Transactions) (table : PlainTable) (are : IsTxns f.base (stream_pieces blocks) txns) (gathered : IsGathered f txns table) where
   same_items : value_in table.items ≡ items_after txns
@@ -66,13 +70,43 @@ series_short generation start next (b ∷ bs) h =
     omega (arith, length-append b.records (all_bytes (stream_pieces bs)), h.0.room, series_short generation (place_after start b) next bs h.1)
 
 -- a fault of what was read is a cause
-pub cause_read : (size : ℕ) (told : Option DiskRecord) (before now : ℕ) (fault : MountFault) → fault ≢ faults.Device → IfSome told (λ r. IsReadFault size r.contents fault) → IsMountCause size told before now fault
-cause_read size told before now faults.NoSuper other h = h
-cause_read size told before now (faults.Version v) other h = h
-cause_read size told before now (faults.DiskSize n) other h = h
-cause_read size told before now (faults.BadLayer b) other h = h
-cause_read size told before now (faults.BadRecord place) other h = h
-cause_read size told before now (faults.BadTree store id) other h = h
-cause_read size told before now (faults.Cramped n) other h = h
-cause_read size told before now faults.Device other h = absurd (other refl)
-cause_read size told before now faults.OutOfMemory other h = tt
+pub cause_read : (before after : DiskSeen) (fault : MountFault) → fault ≢ faults.Device → HasReadWell before after → IfSome before.told (λ r. IsReadFault before.size r.contents fault) → IsMountCause before after fault
+cause_read before after faults.NoSuper other well h = (well, h)
+cause_read before after (faults.Version v) other well h = (well, h)
+cause_read before after (faults.DiskSize n) other well h = (well, h)
+cause_read before after (faults.BadLayer b) other well h = (well, h)
+cause_read before after (faults.BadRecord place) other well h = (well, h)
+cause_read before after (faults.BadTree store id) other well h = (well, h)
+cause_read before after (faults.Cramped n) other well h = (well, h)
+cause_read before after faults.Device other well h = absurd (other refl)
+cause_read before after faults.OutOfMemory other well h = well
+
+-- a fault of the superblock's stream holds of the image of a disk that tells it
+pub refused_told : (seen : DiskSeen) (f : Fields) (blocks : List StreamBlock) (next : Start) (fault : MountFault) → CanGoOn seen.size f → IfSome seen.told (λ r. ChoosesSuper f r.contents) → IfSome seen.told (IsStreamOf f blocks next)
+    → ((size : ℕ) (image : List (List ℕ)) → HasSuper size image f → HasStream image f blocks → IsReadFault size image fault) → IfSome seen.told (λ r. IsReadFault seen.size r.contents fault)
+refused_told seen f blocks next fault on chosen stream refused =
+    if-both seen.told (λ r. ChoosesSuper f r.contents) (IsStreamOf f blocks next) (λ r. IsReadFault seen.size r.contents fault)
+    (λ r a b. refused seen.size r.contents (record { slots = on.slots; chosen = a; blocks = on.blocks; layers = on.layers }) (next, b)) chosen stream
+
+-- what was read of the stream is what a store begins with
+pub read_told : (seen : DiskSeen) (f : Fields) (blocks : List StreamBlock) (next : Start) (c : Contents) → CanGoOn seen.size f → IfSome seen.told (IsStreamOf f blocks next) → IsSeries f.generation (start_of f) blocks next → length blocks ≤ f.ring
+    → (c.closed ≡ length blocks) × (c.next ≡ next) → IsTxns f.base (stream_pieces blocks) (txns_of c.txns) → kept f (txns_of c.txns) ≡ c.base → HasSessionRoom f (txns_of c.txns)
+    → StandsFor (items_after (txns_of c.txns)) c.tree → KnowsNodes (items_after (txns_of c.txns)) c.nodes
+    → c.next_id ≡ next_id_after f.next_id (lists_of (txns_of c.txns)) → c.next_store ≡ next_store_after f.next_store (lists_of (txns_of c.txns)) → IsRead seen f c
+read_told seen f blocks next c on stream series few same txns base room stands nodes next_id next_store = record {
+  blocks = blocks;
+  closed_is = sym same.0;
+  few = few;
+  reading = record {
+    head = record { rules = on.rules; blocks = on.blocks; series = subst (λ (s : Start). IsSeries f.generation (start_of f) blocks s) (sym same.1) series };
+    layers = on.layers;
+    txns_are = txns;
+    base_is = base;
+    room = room;
+  };
+  stands = stands;
+  stream = subst (λ (s : Start). IfSome seen.told (IsStreamOf f blocks s)) (sym same.1) stream;
+  knows = nodes;
+  next_id = next_id;
+  next_store = next_store;
+}

@@ -10,10 +10,14 @@ use Rattle.fx_super.specs.declared.decode.SuperFault.TheVariants.{Bad, Version}
 use Rattle.fx_super.specs.declared.choice.Which.{Which}
 use Rattle.fx_super.specs.declared.choice.Which.TheVariants.{A, B}
 use Rattle.fx_disk.specs.Record.{DiskRecord}
+use Rattle.fx_disk.specs.Seen.{DiskSeen, HasOnlyRead}
 use Rattle.fx_mount.specs.declared.fault.MountFault.{MountFault}
 use Rattle.fx_mount.specs.declared.fault.MountFault.TheVariants as faults
 use Rattle.fx_super.proofs.Chosen.{one_fields, no_other_version}
-use Rattle.fx_mount.specs.Found.{AreSlots, IsRefused, IsMountCause, first_slot, second_slot}
+use Rattle.fx_store.specs.Opening.{TellsChosen}
+use Rattle.fx_store.specs.declared.opening.Found.{Found}
+use Rattle.fx_store.proofs.Keeps.{if-more}
+use Rattle.fx_mount.specs.Found.{AreSlots, CanGoOn, HasReadWell, IsMountCause, IsRefused, IsTold, TellsSlot, first_slot, second_slot}
 
 -- a block that was refused is no superblock
 pub refused-none : (block : List ℕ) (fault : SuperFault) → Decoded block (Err fault) → (f : Fields) → IsSuper block f → ⊥
@@ -82,24 +86,49 @@ first-of-second [] ys le lt = first-alone-of ys lt
     first-alone-of (z ∷ zs) lt = (zs, refl)
 first-of-second (x ∷ xs) ys le lt = absurd (omega arith)
 
+-- a fault that some image shows is a cause
+pub cause-of : (before after : DiskSeen) (fault : MountFault) (image : List (List ℕ)) → IsRefused before.size image fault → HasReadWell before after → IsTold before fault
+    → IsMountCause before after fault
+cause-of before after faults.NoSuper image h well k = (well, k)
+cause-of before after (faults.Version v) image h well k = (well, k)
+cause-of before after (faults.DiskSize n) image h well k = (well, k)
+cause-of before after (faults.BadLayer b) image h well k = (well, k)
+cause-of before after (faults.BadRecord place) image h well k = (well, k)
+cause-of before after (faults.BadTree store id) image h well k = (well, k)
+cause-of before after (faults.Cramped n) image h well k = (well, k)
+cause-of before after faults.Device image h well k = absurd h
+cause-of before after faults.OutOfMemory image h well k = absurd h
+
 -- what was read of two blocks stands in the image of the two, and in that of the disk where it tells it
-pub slots-told : (told : Option DiskRecord) (a b : List ℕ) (first second : Result Super SuperFault) → Decoded a first → Decoded b second
+slots-told : (told : Option DiskRecord) (a b : List ℕ) (first second : Result Super SuperFault) → Decoded a first → Decoded b second
     → IfSome told (λ r. a ≡ get_or r.contents 0 []) → IfSome told (λ r. b ≡ get_or r.contents 1 []) → IfSome told (λ r. AreSlots r.contents first second)
 slots-told None a b first second d e p q = tt
 slots-told (Some r) a b first second d e p q = record { first_is = subst (λ (x : List ℕ). Decoded x first) p d; second_is = subst (λ (x : List ℕ). Decoded x second) q e }
 
-pub slots-two : (a b : List ℕ) (first second : Result Super SuperFault) → Decoded a first → Decoded b second → AreSlots (a ∷ b ∷ []) first second
-slots-two a b first second d e = record { first_is = d; second_is = e }
+-- the two places of a disk that was read, one after the other
+module _ (before mid : DiskSeen) (only : HasOnlyRead before mid) (first second : Result Super SuperFault) (a : TellsSlot before 0 first) (b : TellsSlot mid 1 second) where
+  -- an image that has them, whatever the disk tells
+  abbrev two : List (List ℕ)
+  two = a.0 ∷ b.0 ∷ []
 
--- a fault that the image shows is a cause
-pub cause-of : (size : ℕ) (told : Option DiskRecord) (before now : ℕ) (fault : MountFault) (image : List (List ℕ)) → IsRefused size image fault → IfSome told (λ r. IsRefused size r.contents fault)
-    → IsMountCause size told before now fault
-cause-of size told before now faults.NoSuper image h k = k
-cause-of size told before now (faults.Version v) image h k = k
-cause-of size told before now (faults.DiskSize n) image h k = k
-cause-of size told before now (faults.BadLayer b) image h k = k
-cause-of size told before now (faults.BadRecord place) image h k = k
-cause-of size told before now (faults.BadTree store id) image h k = k
-cause-of size told before now (faults.Cramped n) image h k = k
-cause-of size told before now faults.Device image h k = absurd h
-cause-of size told before now faults.OutOfMemory image h k = absurd h
+  slots-two : AreSlots two first second
+  slots-two = record { first_is = a.1; second_is = b.1 }
+
+  slots-there : IfSome before.told (λ r. AreSlots r.contents first second)
+  slots-there = slots-told before.told a.0 b.0 first second a.1 b.1 a.2
+      (subst (λ (o : Option DiskRecord). IfSome o (λ r. b.0 ≡ get_or r.contents 1 [])) only.told b.2)
+
+  module _ (blocks : ℕ) (same : blocks ≡ before.size) where
+    module _ (it : Found) where
+      pub chosen-there : ((image : List (List ℕ)) → AreSlots image first second → IsChosen image it.chosen (fields_of it.sup)) → TellsChosen before it.chosen (fields_of it.sup)
+      chosen-there h = if-more before.told (λ r. AreSlots r.contents first second) (λ r. IsChosen r.contents it.chosen (fields_of it.sup)) (λ r s. h r.contents s) slots-there
+
+      pub goes-on-there : ((image : List (List ℕ)) → AreSlots image first second → CanGoOn blocks (fields_of it.sup)) → CanGoOn before.size (fields_of it.sup)
+      goes-on-there h = subst (λ (n : ℕ). CanGoOn n (fields_of it.sup)) same (h two slots-two)
+
+    pub refused-there : (after : DiskSeen) (fault : MountFault) → ((image : List (List ℕ)) → AreSlots image first second → IsRefused blocks image fault) → HasReadWell before after
+        → IsMountCause before after fault
+    refused-there after fault h well =
+        let h' : (image : List (List ℕ)) → AreSlots image first second → IsRefused before.size image fault = λ image s. subst (λ (n : ℕ). IsRefused n image fault) same (h image s) in
+        cause-of before after fault two (h' two slots-two) well
+        (if-more before.told (λ r. AreSlots r.contents first second) (λ r. IsRefused before.size r.contents fault) (λ r s. h' r.contents s) slots-there)

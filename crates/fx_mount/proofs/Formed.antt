@@ -1,9 +1,11 @@
 -- What a format leaves is an image with the root alone.
 use Rattle.std.proofs.Common.{◌≡◌, inr, ℕ, ◌+◌, ◌*◌, ◌-◌, ◌%◌, ◌^◌, ◌<◌, ◌≤◌, zero, suc, List, [], ◌∷◌, drop, get_or, length, lit<, lit≤, refl, replicate, sym, ap, subst, take, ◌∙◌, arith}
+use Rattle.std.specs.Prelude.{IfSome, None, Option, Some}
 use Rattle.std.proofs.lemmas.List.{drop-replicate, take-replicate}
 use Rattle.std.proofs.Math.Nat.{mod-lt}
 use Rattle.byteorder.specs.Endian.{little_number}
 use Rattle.fx_disk.specs.Record.{DiskRecord, LeftNow}
+use Rattle.fx_disk.specs.Longer.{BothTell}
 use Rattle.fx_disk.specs.Settled.{IsSettled}
 use Rattle.fx_disk.specs.Steps.{IsRecordOf}
 use Rattle.fx_disk.proofs.Records.{reads-alone}
@@ -24,8 +26,8 @@ use Rattle.fx_super.proofs.Blocks as blocks
 use Rattle.fx_super.proofs.Chosen.{zeros_have_no_magic}
 use Rattle.fx_log.specs.Chosen.{start_of}
 use Rattle.fx_image.specs.Standing.{HasAmpleRoom, IsImage}
-use Rattle.fx_mount.specs.Formatted.{IsFormatted, IsLaidOut}
-use Rattle.fx_store.specs.Zeros.{zero_bytes}
+use Rattle.fx_mount.specs.Formatted.{IsFormatted, IsLaidOut, LeavesRoot}
+use Rattle.fx_base.specs.Blocks.{zero_bytes}
 use Rattle.fx_mount.specs.Found.{IsMountable}
 
 -- ---- a block of zeros
@@ -91,23 +93,26 @@ module _ (size ring : ℕ) (image : List (List ℕ)) (first : List ℕ) (super :
 pub has_room : (size ring : ℕ) → HasAmpleRoom (first_fields size ring) []
 has_room size ring = record { generations = lit≤ tt; sequences = lit≤ tt; commits = lit≤ tt; ids_left = lit≤ tt; stores_left = lit≤ tt }
 
-module _ (size ring calls : ℕ) (before after : DiskRecord) (image : List (List ℕ)) (settled : IsSettled before) (is : IsRecordOf size calls after) (formatted : IsFormatted size ring before after) (left : LeftNow after image) where
+module _ (size ring calls : ℕ) (before after : DiskRecord) (settled : IsSettled before) (is : IsRecordOf size calls after) (formatted : IsFormatted size ring before after) where
   laid : IsLaidOut ring formatted.0 before after
   laid = formatted.2
 
-  same : image ≡ after.contents
-  same = reads-alone size calls after image is (laid.settled settled) left
+  module _ (image : List (List ℕ)) (left : LeftNow after image) where
+    same : image ≡ after.contents
+    same = reads-alone size calls after image is (laid.settled settled) left
 
-  pub formatted_image : IsImage size image (first_fields size ring) [] root
-  formatted_image = is_image size ring image formatted.0 formatted.1 (ap (λ (x : List (List ℕ)). get_or x 0 []) same ∙ laid.first_is)
-      (λ b least most. ap (λ (x : List (List ℕ)). get_or x b []) same ∙ laid.zeros b least most)
+    pub formatted_mounts : IsMountable size image (first_fields size ring) [] root
+    formatted_mounts =
+        let rules = formatted.1.rules in
+        record {
+          slots = omega (arith, rules.blocks_least);
+          image_is = is_image size ring image formatted.0 formatted.1 (ap (λ (x : List (List ℕ)). get_or x 0 []) same ∙ laid.first_is)
+              (λ b least most. ap (λ (x : List (List ℕ)). get_or x b []) same ∙ laid.zeros b least most);
+          room = record { generations = lit≤ tt; sequences = lit≤ tt; commits = lit≤ tt; ids_left = lit≤ tt; stores_left = lit≤ tt };
+        }
 
-  pub formatted_mounts : IsMountable size image (first_fields size ring) [] root
-  formatted_mounts =
-      let rules = formatted.1.rules in
-      let room = has_room size ring in
-      record {
-        slots = omega (arith, rules.blocks_least);
-        image_is = formatted_image;
-        room = record { generations = lit≤ tt; sequences = lit≤ tt; commits = lit≤ tt; ids_left = lit≤ tt; stores_left = lit≤ tt };
-      }
+-- what a disk tells that was formatted leaves the root alone
+pub leaves_root : (size ring calls : ℕ) (before after : Option DiskRecord) → IfSome after (IsRecordOf size calls) → BothTell (IsFormatted size ring) before after → BothTell (LeavesRoot size ring) before after
+leaves_root size ring calls None after is h = h
+leaves_root size ring calls (Some r) after is (s, e, formatted) =
+    (s, e, λ settled image left. formatted_mounts size ring calls r s settled (subst (λ (o : Option DiskRecord). IfSome o (IsRecordOf size calls)) e is) formatted image left)

@@ -11,7 +11,7 @@ use Rattle.fx_disk.specs.Longer.{BothTell, IsLonger}
 use Rattle.fx_disk.proofs.Longer.{longer_same, longer_then, longer_call}
 use Rattle.fx_disk.proofs.Made.{IsTold, good-made}
 use Rattle.fx_mount.specs.Formatted.{IsLaidOut}
-use Rattle.fx_store.specs.Zeros.{zero_bytes}
+use Rattle.fx_base.specs.Blocks.{zero_bytes}
 use Rattle.fx_mount.specs.Laying.{IsLaid, KeepsFirst}
 
 pub laid-none : (r : DiskRecord) → KeepsFirst 1 r r

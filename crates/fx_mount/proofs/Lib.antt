@@ -4,5 +4,6 @@ pub mod Growing
 pub mod Gathering
 pub mod Contents
 pub mod Mountable
+pub mod Refusals
 pub mod Taken
 pub mod Formed

@@ -2,6 +2,7 @@
 use Rattle.std.proofs.Common.{◌≡◌, ◌≢◌, ◌⊎◌, inl, inr, ℕ, ◌+◌, ◌*◌, ◌<◌, ◌≤◌, List, [], ◌∷◌, ◌++◌, refl, sym, ap, subst, ◌∙◌, arith}
 use Rattle.std.specs.Prelude.{IfSome, Option, Some}
 use Rattle.fx_disk.specs.Record.{DiskRecord}
+use Rattle.fx_disk.specs.Seen.{DiskSeen}
 use Rattle.fx_plain.specs.Tree.{Tree}
 use Rattle.fx_namespace.specs.Nodes.{Stands}
 use Rattle.fx_nodes.proofs.NothingWrong.{nothing_wrong}
@@ -19,7 +20,7 @@ use Rattle.fx_image.proofs.OneImage.{images_same, images_super}
 use Rattle.fx_log.proofs.SuperChoice.{one_super, rules_chosen, stream_chosen}
 use Rattle.fx_mount.specs.declared.fault.MountFault.{MountFault}
 use Rattle.fx_mount.specs.declared.fault.MountFault.TheVariants as faults
-use Rattle.fx_mount.specs.Found.{HasStream, HasSuper, IsMountable, IsMountCause, IsMountedAt, IsRefused}
+use Rattle.fx_mount.specs.Found.{HasStream, HasSuper, IsMountable, IsMountCause, IsMountedAt, IsRefused, IsTold}
 
 -- ---- an image to mount
 
@@ -69,30 +70,26 @@ prefix_taken size ample tree base history m image fault p room refused =
 
 -- ---- what a mount answers of such an image
 
--- only a fault of the disk or want of memory
-pub answers_free : (size : ℕ) (told : Option DiskRecord) (before now : ℕ) (r : DiskRecord) (f : Fields) (txns : Transactions) (tree : Tree) (fault : MountFault) → told ≡ Some r → IsMountable size r.contents f txns tree → IsMountCause size told before now fault
-    → (fault ≡ faults.Device) ⊎ (fault ≡ faults.OutOfMemory)
-answers_free size told before now r f txns tree fault here is cause = by fault cause
-  where
-    refused : (other : MountFault) → IfSome told (λ s. IsRefused size s.contents other) → ⊥
-    refused other h = taken size r.contents f txns tree is other (subst (λ (o : Option DiskRecord). IfSome o (λ s. IsRefused size s.contents other)) here h)
+module _ (before : DiskSeen) (r : DiskRecord) (f : Fields) (txns : Transactions) (tree : Tree) (here : before.told ≡ Some r) (is : IsMountable before.size r.contents f txns tree) where
+  not-told : (fault : MountFault) → IsTold before fault → ⊥
+  not-told fault h = taken before.size r.contents f txns tree is fault (subst (λ (o : Option DiskRecord). IfSome o (λ s. IsRefused before.size s.contents fault)) here h)
 
-    by : (other : MountFault) → IsMountCause size told before now other → (other ≡ faults.Device) ⊎ (other ≡ faults.OutOfMemory)
-    by faults.NoSuper h = absurd (refused faults.NoSuper h)
-    by (faults.Version version) h = absurd (refused (faults.Version version) h)
-    by (faults.DiskSize blocks) h = absurd (refused (faults.DiskSize blocks) h)
-    by (faults.BadLayer at) h = absurd (refused (faults.BadLayer at) h)
-    by (faults.BadRecord place) h = absurd (refused (faults.BadRecord place) h)
-    by (faults.BadTree store id) h = absurd (refused (faults.BadTree store id) h)
-    by (faults.Cramped free) h = absurd (refused (faults.Cramped free) h)
-    by faults.Device h = inl refl
-    by faults.OutOfMemory h = inr refl
+  -- only a fault of the disk or want of memory
+  pub answers_free : (after : DiskSeen) (fault : MountFault) → IsMountCause before after fault → (fault ≡ faults.Device) ⊎ (fault ≡ faults.OutOfMemory)
+  answers_free after faults.NoSuper h = absurd (not-told faults.NoSuper h.1)
+  answers_free after (faults.Version version) h = absurd (not-told (faults.Version version) h.1)
+  answers_free after (faults.DiskSize blocks) h = absurd (not-told (faults.DiskSize blocks) h.1)
+  answers_free after (faults.BadLayer at) h = absurd (not-told (faults.BadLayer at) h.1)
+  answers_free after (faults.BadRecord place) h = absurd (not-told (faults.BadRecord place) h.1)
+  answers_free after (faults.BadTree store id) h = absurd (not-told (faults.BadTree store id) h.1)
+  answers_free after (faults.Cramped free) h = absurd (not-told (faults.Cramped free) h.1)
+  answers_free after faults.Device h = inl refl
+  answers_free after faults.OutOfMemory h = inr refl
 
--- the number of the last commit, and the transactions
-pub answers_same : (size : ℕ) (told : Option DiskRecord) (base : ℕ) (txns : Transactions) (opening : Tree) (r : DiskRecord) (f : Fields) (others : Transactions) (tree : Tree) → IfSome told (IsMountedAt size base txns opening)
-    → told ≡ Some r → IsMountable size r.contents f others tree → (base ≡ kept f others) × (txns ≡ others)
-answers_same size told base txns opening r f others tree mounted here is =
-    let m : IsMountedAt size base txns opening r = subst (λ (o : Option DiskRecord). IfSome o (IsMountedAt size base txns opening)) here mounted in
-    let same_f : m.0 ≡ f = images_super size r.contents m.0 f txns others opening tree m.1.image_is is.image_is in
-    let same : txns ≡ others = (images_same size r.contents m.0 f txns others opening tree m.1.image_is is.image_is).0 in
-    (sym m.2 ∙ ap (λ (ts : Transactions). kept m.0 ts) same ∙ ap (λ (g : Fields). kept g others) same_f, same)
+  -- the number of the last commit, and the transactions
+  pub answers_same : (base : ℕ) (others : Transactions) (opening : Tree) → IfSome before.told (IsMountedAt before.size base others opening) → (base ≡ kept f txns) × (others ≡ txns)
+  answers_same base others opening mounted =
+      let m : IsMountedAt before.size base others opening r = subst (λ (o : Option DiskRecord). IfSome o (IsMountedAt before.size base others opening)) here mounted in
+      let same_f : m.0 ≡ f = images_super before.size r.contents m.0 f others txns opening tree m.1.image_is is.image_is in
+      let same : others ≡ txns = (images_same before.size r.contents m.0 f others txns opening tree m.1.image_is is.image_is).0 in
+      (sym m.2 ∙ ap (λ (ts : Transactions). kept m.0 ts) same ∙ ap (λ (g : Fields). kept g txns) same_f, same)

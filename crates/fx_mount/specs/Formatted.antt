@@ -1,10 +1,12 @@
 -- What a format leaves.
 use Rattle.std.specs.Prelude.{◌≡◌, ℕ, ◌+◌, ◌*◌, ◌<◌, ◌≤◌, List, [], length, replicate, slice_index_or}
-use Rattle.fx_base.specs.Causes.{Rose}
-use Rattle.fx_disk.specs.Record.{DiskRecord}
+use Rattle.fx_disk.specs.Record.{DiskRecord, LeftNow}
+use Rattle.fx_disk.specs.Seen.{DiskSeen, HasCalled, HasFailedLast}
 use Rattle.fx_disk.specs.Settled.{IsSettled}
 use Rattle.fx_super.specs.Super.{Fields, IsSuper, first_fields}
-use Rattle.fx_store.specs.Zeros.{zero_bytes}
+use Rattle.fx_plain.specs.Tree.{root}
+use Rattle.fx_base.specs.Blocks.{zero_bytes}
+use Rattle.fx_mount.specs.Found.{IsMountable}
 use Rattle.fx_mount.specs.declared.fault.MkfsFault.{MkfsFault}
 use Rattle.fx_mount.specs.declared.fault.MkfsFault.TheVariants.{Size, Device}
 
@@ -18,14 +20,31 @@ pub record HasRoomFor (ring blocks : ℕ) : Type 0 where
 pub record IsLaidOut (ring : ℕ) (first : List ℕ) (before after : DiskRecord) : Type 0 where
   pub first_is : slice_index_or after.contents 0 [] ≡ first
   pub zeros : (b : ℕ) → 1 ≤ b → b < ring + 2 → slice_index_or after.contents b [] ≡ zero_bytes
-  pub rest : (b : ℕ) → ring + 2 ≤ b → slice_index_or after.contents b [] ≡ slice_index_or before.contents b []
+  pub rest : (b : ℕ) → ring + 2 ≤ b
+      → slice_index_or after.contents b [] ≡ slice_index_or before.contents b []
   pub settled : IsSettled before → IsSettled after
 
 -- The disk of so many blocks was formatted with a ring of this length, and has the first superblock.
 abbrev pub IsFormatted : ℕ → ℕ → DiskRecord → DiskRecord → Type 0
-IsFormatted size ring before after = (first : List ℕ) × IsSuper first (first_fields size ring) × IsLaidOut ring first before after
+IsFormatted size ring before after =
+    (first : List ℕ) × IsSuper first (first_fields size ring) × IsLaidOut ring first before after
 
--- Why a disk was not formatted: its size, by which it was not touched, or it failed.
-abbrev pub IsMkfsCause : ℕ → ℕ → ℕ → ℕ → MkfsFault → Type 0
-IsMkfsCause ring size before now (Size blocks) = (blocks ≡ size) × (HasRoomFor ring size → ⊥)
-IsMkfsCause ring size before now Device = HasRoomFor ring size × Rose before now
+-- If nothing was loose before, every image left has the first superblock and no transactions, stands for the
+-- root alone, and can be mounted.
+abbrev pub LeavesRoot : ℕ → ℕ → DiskRecord → DiskRecord → Type 0
+LeavesRoot size ring before after = IsSettled before → (image : List (List ℕ)) → LeftNow after image
+    → IsMountable size image (first_fields size ring) [] root
+
+-- The disk has room, and each write and flush of the format was made, and was good.
+pub record HasFormatted (ring : ℕ) (before after : DiskSeen) : Type 0 where
+  pub room : HasRoomFor ring before.size
+  pub calls : after.calls ≡ before.calls + ring + 4
+  pub faults : after.faults ≡ before.faults
+
+-- Why a disk was not formatted: its size, by which it was not touched, or the call that was last asked for
+-- failed.
+abbrev pub IsMkfsCause : ℕ → DiskSeen → DiskSeen → MkfsFault → Type 0
+IsMkfsCause ring before after (Size blocks) =
+    (blocks ≡ before.size) × (HasRoomFor ring before.size → ⊥) × (after ≡ before)
+IsMkfsCause ring before after Device =
+    HasRoomFor ring before.size × HasCalled before after false × HasFailedLast after

@@ -28,20 +28,27 @@ pub record MayStand (tree : Tree) (path : List (List ℕ)) (kind : Kind) : Type 
 -- The nodes may be made one after another: no path is there twice or empty, what lies above a node is a directory
 -- before it, and no file lies in the root.
 pub record AreParentsFirst (nodes : List TreeNode) : Type 0 where
-  pub once : (i j : ℕ) (x y : TreeNode) → slice_get nodes i ≡ Some x → slice_get nodes j ≡ Some y → x.path ≡ y.path → i ≡ j
+  pub once : (i j : ℕ) (x y : TreeNode) → slice_get nodes i ≡ Some x → slice_get nodes j ≡ Some y
+      → x.path ≡ y.path → i ≡ j
   pub named : (i : ℕ) (x : TreeNode) → slice_get nodes i ≡ Some x → x.path ≢ []
-  pub parent : (i : ℕ) (x : TreeNode) (above : List (List ℕ)) (name : List ℕ) → slice_get nodes i ≡ Some x → x.path ≡ above ++ name ∷ [] → above ≢ []
-      → (j : ℕ) × (y : TreeNode) × (j < i) × (slice_get nodes j ≡ Some y) × (y.path ≡ above) × (y.kind ≡ Dir)
-  pub volume : (i : ℕ) (x : TreeNode) (name : List ℕ) → slice_get nodes i ≡ Some x → x.path ≡ name ∷ [] → x.kind ≡ Dir
+  pub parent : (i : ℕ) (x : TreeNode) (above : List (List ℕ)) (name : List ℕ)
+      → slice_get nodes i ≡ Some x → x.path ≡ above ++ name ∷ [] → above ≢ []
+      → (j : ℕ) × (y : TreeNode) × (j < i) × (slice_get nodes j ≡ Some y)
+          × (y.path ≡ above) × (y.kind ≡ Dir)
+  pub volume : (i : ℕ) (x : TreeNode) (name : List ℕ) → slice_get nodes i ≡ Some x
+      → x.path ≡ name ∷ [] → x.kind ≡ Dir
 
 -- The tree has the root and the first n of the nodes, and nothing else.
 pub record HasNodes (nodes : List TreeNode) (n : ℕ) (tree : Tree) : Type 0 where
   pub is_tree : IsTree tree
-  pub listed : (i : ℕ) (x : TreeNode) → i < n → slice_get nodes i ≡ Some x → get tree x.path ≡ Some (empty_node x.kind)
+  pub listed : (i : ℕ) (x : TreeNode) → i < n → slice_get nodes i ≡ Some x
+      → get tree x.path ≡ Some (empty_node x.kind)
   pub only : (path : List (List ℕ)) (node : Node) → get tree path ≡ Some node
-      → (path ≡ []) ⊎ ((i : ℕ) × (x : TreeNode) × (i < n) × (slice_get nodes i ≡ Some x) × (x.path ≡ path))
+      → (path ≡ [])
+          ⊎ ((i : ℕ) × (x : TreeNode) × (i < n) × (slice_get nodes i ≡ Some x) × (x.path ≡ path))
 
 -- The table has the root, and the nodes of the paths of the first n of the nodes.
 pub record HasPaths (nodes : List TreeNode) (n : ℕ) (table : NodeTable) : Type 0 where
   pub top : get table [] ≡ Some root_node
-  pub listed : (i : ℕ) (x : TreeNode) → i < n → slice_get nodes i ≡ Some x → get table x.path ≡ Some x.node
+  pub listed : (i : ℕ) (x : TreeNode) → i < n → slice_get nodes i ≡ Some x
+      → get table x.path ≡ Some x.node

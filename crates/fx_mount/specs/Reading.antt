@@ -22,9 +22,14 @@ use Rattle.fx_mount.specs.declared.fault.MountFault.TheVariants.{OutOfMemory}
 pub record IsGathered (f : Fields) (txns : Transactions) (table : PlainTable) : Type 0 where
   pub items : (key : PlainKey) → value_in table.items key ≡ items_after txns key
   pub next_id : table.next_id ≡ min (next_id_after f.next_id (lists_of txns)) (2 ^ 64 - 1)
-  pub next_store : table.next_store ≡ min (next_store_after f.next_store (lists_of txns)) (2 ^ 32 - 1)
+  pub next_store :
+      table.next_store ≡ min (next_store_after f.next_store (lists_of txns)) (2 ^ 32 - 1)
 
--- Why an image was not read: memory ran out, or the fault is the first that holds of it.
+-- Why the stream of an image was not read: memory ran out, or the fault is the first that holds of it.
 abbrev pub IsReadFault : ℕ → List (List ℕ) → MountFault → Type 0
 IsReadFault size image OutOfMemory = Unit {0}
 IsReadFault size image fault = IsRefused size image fault
+
+-- The blocks, up to the next place, are the stream of the superblock on the disk.
+abbrev pub IsStreamOf : Fields → List StreamBlock → Start → DiskRecord → Type 0
+IsStreamOf f blocks next r = IsStream r.contents f.ring f.generation (start_of f) blocks next

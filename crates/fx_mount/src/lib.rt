@@ -12,6 +12,3 @@ pub use fault::{MkfsFault, MountFault};
 pub use format::mkfs;
 pub use mounting::{Unmounted, mount};
 pub use fx_store::{Mark, Store, StoreEnd};
-
-#[cfg(test)]
-mod tests;

@@ -1,10 +1,9 @@
 //! Reading what the journal of a disk holds.
-ghost use Rattle.std.specs.Prelude.{◌≡◌, ◌≢◌, ◌↔◌, ℕ, ◌+◌, ◌<◌, ◌≤◌, ◌^◌, [], All, List, IfOk, IfErr, OnErr, OnOk, IsTrue, length};
+ghost use Rattle.std.specs.Prelude.{◌≡◌, ◌≢◌, ◌↔◌, ℕ, ◌<◌, ◌≤◌, ◌^◌, All, List, IfOk, IfErr, OnOk, IsTrue, length};
 ghost use Rattle.std.specs.FinMap.{insert};
 ghost use Rattle.std.specs.Option.{IfSome};
-ghost use Rattle.fx_base.specs.Causes.{Rose};
+ghost use Rattle.fx_disk.specs.Seen.{HasOnlyRead};
 ghost use Rattle.fx_item.specs.Look.{next_id_after, next_store_after, value_in};
-ghost use Rattle.fx_plain.specs.Tree.{Tree};
 ghost use Rattle.fx_namespace.specs.Nodes.{Stands};
 ghost use Rattle.fx_namespace.specs.Trees.{IsTreeOf, bare};
 ghost use Rattle.fx_record.specs.Commits.{IsCommit};
@@ -12,12 +11,12 @@ ghost use Rattle.fx_record.specs.Txns as records;
 ghost use Rattle.fx_record.specs.Txns.{IsTxns, txns_of};
 ghost use Rattle.fx_journal.specs.Stream.{IsSeries};
 ghost use Rattle.fx_super.specs.Super.{KeepsRules, fields_of};
-ghost use Rattle.fx_log.specs.Chosen.{ChoosesSuper, layers_of, start_of};
+ghost use Rattle.fx_log.specs.Chosen.{ChoosesSuper, start_of};
 ghost use Rattle.fx_image.specs.Standing.{HasSessionRoom, StandsFor, Transactions, items_after, kept, lists_of, stream_pieces};
-ghost use Rattle.fx_mount.specs.Found.{HasStream, HasSuper, IsMountCause};
-ghost use Rattle.fx_mount.specs.Growing.{AreParentsFirst, HasNodes, HasPaths, MayStand, empty_node};
-ghost use Rattle.fx_store.specs.Session.{KnowsNodes, new_step};
 ghost use Rattle.fx_store.specs.Opening.{IsRead};
+ghost use Rattle.fx_store.specs.Session.{KnowsNodes, new_step};
+ghost use Rattle.fx_mount.specs.Found.{CanGoOn, HasReadWell, HasStream, HasSuper, IsMountCause};
+ghost use Rattle.fx_mount.specs.Growing.{AreParentsFirst, HasNodes, HasPaths, MayStand, empty_node};
 ghost use Rattle.fx_mount.specs.Reading.{IsGathered, IsReadFault};
 
 use crate::fault::MountFault;
@@ -37,40 +36,44 @@ pub(crate) fn read_journal<D: Disk>(
     disk: &mut D,
     sup: &Super,
 ) -> Result<Contents, MountFault>
-    requires rules { KeepsRules (fields_of sup.now) }
-    requires disk { sup.now.blocks ≡ D.size disk.old }
-    requires layers { layers_of (fields_of sup.now) ≡ [] }
-    requires chosen { IfSome (D.told disk.old) (λ r. ChoosesSuper (fields_of sup.now) r.contents) }
-    ensures reads { IfOk result (IsRead (D.size disk.old) (D.told disk.old) (fields_of sup.now)) }
-    ensures cause { IfErr result (IsMountCause (D.size disk.old) (D.told disk.old) (D.faults disk.old) (D.faults disk.new)) }
-    ensures told { D.told disk.new ≡ D.told disk.old }
-    ensures calls { D.calls disk.new ≡ D.calls disk.old }
-    ensures size { D.size disk.new ≡ D.size disk.old }
-    ensures faults { D.faults disk.old ≤ D.faults disk.new }
-    ensures unfailed { OnOk result (D.faults disk.new ≡ D.faults disk.old) }
+    requires goes_on { CanGoOn (D.seen disk.old).size (fields_of sup.now) }
+    requires chosen { IfSome (D.seen disk.old).told
+        (λ r. ChoosesSuper (fields_of sup.now) r.contents) }
+    ensures read { IfOk result (IsRead (D.seen disk.old) (fields_of sup.now)) }
+    ensures well { OnOk result (HasReadWell (D.seen disk.old) (D.seen disk.new)) }
+    ensures cause { IfErr result (IsMountCause (D.seen disk.old) (D.seen disk.new)) }
+    ensures only { HasOnlyRead (D.seen disk.old) (D.seen disk.new) }
 {
     let stream = match walk(alloc, disk, start_of(sup), sup.ring, sup.generation) {
         Ok(stream) => stream,
         Err(WalkFault::Device) => return Err(MountFault::Device),
         Err(WalkFault::OutOfMemory) => return Err(MountFault::OutOfMemory),
     };
-    read_contents(alloc, sup, stream)
+    match read_contents(alloc, sup, stream) {
+        Ok(contents) => Ok(contents),
+        Err(fault) => Err(fault),
+    }
 }
 
 /// What the blocks of the stream hold, or the first fault of it.
 fn read_contents(alloc: Global, sup: &Super, stream: Stream) -> Result<Contents, MountFault>
     requires rules { KeepsRules (fields_of sup.now) }
     requires few { length stream.blocks ≤ sup.now.ring }
-    requires series { IsSeries sup.now.generation (start_of (fields_of sup.now)) stream.blocks stream.next }
+    requires series { IsSeries sup.now.generation (start_of (fields_of sup.now))
+        stream.blocks stream.next }
     ensures next { IfOk result (λ c. (c.closed ≡ length stream.blocks) × (c.next ≡ stream.next)) }
-    ensures txns { IfOk result (λ c. IsTxns sup.now.base (stream_pieces stream.blocks) (txns_of c.txns)) }
+    ensures txns { IfOk result (λ c.
+        IsTxns sup.now.base (stream_pieces stream.blocks) (txns_of c.txns)) }
     ensures base { IfOk result (λ c. kept (fields_of sup.now) (txns_of c.txns) ≡ c.base) }
     ensures room { IfOk result (λ c. HasSessionRoom (fields_of sup.now) (txns_of c.txns)) }
     ensures stands { IfOk result (λ c. StandsFor (items_after (txns_of c.txns)) c.tree) }
     ensures nodes { IfOk result (λ c. KnowsNodes (items_after (txns_of c.txns)) c.nodes) }
-    ensures next_id { IfOk result (λ c. c.next_id ≡ next_id_after sup.now.next_id (lists_of (txns_of c.txns))) }
-    ensures next_store { IfOk result (λ c. c.next_store ≡ next_store_after sup.now.next_store (lists_of (txns_of c.txns))) }
-    ensures refused { IfErr result (λ fault. (size : ℕ) (image : List (List ℕ)) → HasSuper size image (fields_of sup.now) →
+    ensures next_id { IfOk result (λ c.
+        c.next_id ≡ next_id_after sup.now.next_id (lists_of (txns_of c.txns))) }
+    ensures next_store { IfOk result (λ c.
+        c.next_store ≡ next_store_after sup.now.next_store (lists_of (txns_of c.txns))) }
+    ensures refused { IfErr result (λ fault. (size : ℕ) (image : List (List ℕ)) →
+        HasSuper size image (fields_of sup.now) →
         HasStream image (fields_of sup.now) stream.blocks → IsReadFault size image fault) }
     ensures memory { IfErr result (λ fault. fault ≢ MountFault.Device) }
 {
@@ -108,7 +111,7 @@ fn read_contents(alloc: Global, sup: &Super, stream: Stream) -> Result<Contents,
 
 /// The blocks as their epochs and record bytes.
 fn stream_pieces(alloc: Global, blocks: Blocks) -> Result<Vec<Piece>, AllocError>
-    ensures { IfOk result (λ pieces. records.stream_pieces pieces.items ≡ stream_pieces blocks) }
+    ensures { IfOk result (λ pieces. records.pieces_of pieces.items ≡ stream_pieces blocks) }
 {
     let mut pieces = Vec::with_capacity(alloc, blocks.len())?;
     for block in blocks.into_vec() {
@@ -136,7 +139,9 @@ fn gather(alloc: Global, sup: &Super, txns: &Txns) -> Result<ItemTable, AllocErr
 fn has_room(sup: &Super, base: u64, table: &ItemTable) -> bool
     requires rules { KeepsRules (fields_of sup.now) }
     requires few { base < 2 ^ 63 }
-    ensures { (txns : Transactions) → kept (fields_of sup.now) txns ≡ base → IsGathered (fields_of sup.now) txns table.now → IsTrue result ↔ HasSessionRoom (fields_of sup.now) txns }
+    ensures { (txns : Transactions) → kept (fields_of sup.now) txns ≡ base →
+        IsGathered (fields_of sup.now) txns table.now →
+        IsTrue result ↔ HasSessionRoom (fields_of sup.now) txns }
 {
     const COUNTS: u64 = 1 << 40;
     const IDS: u64 = 1 << 23;

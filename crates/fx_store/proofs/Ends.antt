@@ -12,7 +12,7 @@ use Rattle.fx_script.specs.declared.script.Task.{Task}
 use Rattle.fx_journal.specs.Ring.{RingState}
 use Rattle.fx_item.specs.declared.full.Full as rings
 use Rattle.fx_pool.specs.Region.{Region}
-use Rattle.fx_disk.specs.Record.{DiskRecord}
+use Rattle.fx_disk.specs.Seen.{DiskSeen}
 use Rattle.fx_record.specs.Txns.{txns_of}
 use Rattle.fx_history.specs.declared.entry.Entry.{Entry}
 use Rattle.fx_history.specs.declared.outcome.EndKind.{EndKind}
@@ -44,7 +44,7 @@ ends-as opening base old new other task n m kind last e f k h =
     (subst (λ (x : ℕ). EndsNext opening base old new task x last) (sym f)
     (subst (EndsNext opening base old new task n) (sym k) h))
 
-module _ (size calls : ℕ) (told : Option DiskRecord) (from : ℕ) (s : Session) (ring : RingState) (pool : Region) (h : IsStore size calls told from s ring pool)
+module _ {seen : DiskSeen} {from : ℕ} {s : Session} {ring : RingState} {pool : Region} (h : IsStore seen from s ring pool)
     (opening : Tree) (o : Opens (txns_of s.txns) opening) (task : Task) (step : Step) (line : task.line ≡ Single step) where
   abbrev items : List Entry
   items = s.history.items
@@ -56,7 +56,7 @@ module _ (size calls : ℕ) (told : Option DiskRecord) (from : ℕ) (s : Session
   there = tree_at opening items at
 
   here : s.tree ≡ there
-  here = current size calls told from s ring pool h opening o
+  here = current h opening o
 
   outcome-there : (do_step there step).0 ≡ (do_step s.tree step).0
   outcome-there = ap (λ (t : Tree). (do_step t step).0) (sym here)

@@ -2,8 +2,10 @@
 use Rattle.std.proofs.Common.{◌≡◌, ℕ, ◌+◌, ◌^◌, ◌<◌, ◌≤◌, List, [], Bool, append-nil, length, refl, sym, ap, subst, ◌∙◌, arith}
 use Rattle.std.specs.Prelude.{IfSome, None, Option, Some}
 use Rattle.fx_disk.specs.Record.{DiskRecord}
-use Rattle.fx_disk.specs.Steps.{IsRecordOf, Writes, Flushes, MadeOrNot}
-use Rattle.fx_super.specs.Super.{Fields, IsSuper}
+use Rattle.fx_disk.specs.Seen.{DiskSeen, GoesOn, HasFlushed, HasWritten}
+use Rattle.fx_disk.specs.Steps.{IsRecordOf, Writes, Flushes}
+use Rattle.fx_super.specs.Super.{Fields, IsSuper, fields_of}
+use Rattle.fx_super.specs.declared.superblock.TheConstants.{MAX_GENERATION}
 use Rattle.fx_super.specs.Chosen.{IsChosen, block_number, other}
 use Rattle.fx_super.specs.declared.choice.Which.{Which}
 use Rattle.fx_item.specs.Item.{PlainItem}
@@ -18,42 +20,61 @@ use Rattle.fx_image.specs.Standing.{Transactions, items_after, lists_of}
 use Rattle.fx_image.specs.Journal.{HasJournal, IsJournal}
 use Rattle.fx_image.proofs.JournalStart.{journal-new}
 use Rattle.fx_log.proofs.LogRaised.{series-next}
+use Rattle.fx_disk.proofs.Made.{good-made}
+use Rattle.fx_log.proofs.SuperTold as supers
 use Rattle.fx_image.proofs.JournalTold.{ReadsAs, told-raise, told-begun-flush, told-mounted}
 use Rattle.fx_log.proofs.SuperChoice.{one_super, stream_chosen}
 use Rattle.fx_image.proofs.Mounted.{mounted-new}
-use Rattle.fx_image.proofs.MountUnfinished.{told-unfinished}
+use Rattle.fx_image.proofs.MountUnfinished.{told-unfinished, told-untouched}
 use Rattle.fx_image.specs.Prefix.{KeepsPrefix}
 use Rattle.fx_log.specs.Raising.{ChoosesNext, ChoosesSince}
-use Rattle.fx_store.specs.Mounted.{KeepsImages, Opens}
+use Rattle.fx_store.specs.Mounted.{KeepsImages, LeavesOpening}
 use Rattle.fx_store.specs.Inside.{IsStore}
-use Rattle.fx_store.specs.Opening.{FitsTogether, IsOn, IsPrepared, IsRead, Read, journal_of, read_of, ring_of}
+use Rattle.fx_store.specs.Opening.{CanBegin, FitsTogether, HasBegun, IsOn, IsPrepared, IsRead, Raises, Read, TellsChosen, journal_of, read_of, ring_of}
 use Rattle.fx_store.specs.Session.{IsSessionOf, KnowsNodes}
 use Rattle.fx_store.specs.declared.session.Session.{Session}
 use Rattle.fx_store.specs.declared.opening.Contents.{Contents}
+use Rattle.fx_store.specs.declared.opening.Found.{Found}
 use Rattle.fx_store.specs.declared.commit.Numbers.{Numbers}
 use Rattle.fx_store.proofs.Keeps.{if-both}
 
 -- what was read is a journal on which nothing was committed yet
-pub is_journal : (size from : ℕ) (f : Fields) (read : Read) → FitsTogether size f read → (calls : ℕ) → IsJournal (journal_of size from f read) calls
+is_journal : (size from : ℕ) (f : Fields) (read : Read) → FitsTogether size f read → (calls : ℕ) → IsJournal (journal_of size from f read) calls
 is_journal size from f read fits calls = journal-new size from read.tree read.base f read.blocks read.place read.txns fits.reading fits.few calls fits.stands
 
-module _ (size calls : ℕ) (before : Option DiskRecord) (which : Which) (f : Fields) (read : Read) (is : IfSome before (IsRecordOf size calls))
-    (chosen : IfSome before (λ r. IsChosen r.contents which f)) (on : IfSome before (IsOn f read)) (fits : FitsTogether size f read) where
-  pub told-written : (bytes : List ℕ) → IsSuper bytes (next_generation f) → (mid : Option DiskRecord) (counted : ℕ) (made ok : Bool)
-      → MadeOrNot calls counted made ok (Writes before mid (block_number (other which)) bytes ok) (mid ≡ before) → IfSome mid (HasJournal (journal_of size calls f read))
-  told-written bytes next mid counted made ok w =
-      told-raise size calls read.tree read.base f read.blocks read.place read.txns calls (is_journal size calls f read fits calls) before is which
-      (if-both before (λ r. IsChosen r.contents which f) (IsOn f read) (ReadsAs which f read.blocks read.place) (λ r a b. record { chosen = a; stream = b }) chosen on)
-      bytes next mid counted made ok w
+-- ---- the write and the flush of the superblock
 
-pub told-flushed : (size calls : ℕ) (f : Fields) (read : Read) → FitsTogether size f read → (mid after : Option DiskRecord) (count counted : ℕ) (made ok : Bool) → MadeOrNot count counted made ok (Flushes mid after ok) (after ≡ mid)
-    → IfSome mid (HasJournal (journal_of size calls f read)) → IfSome after (HasJournal (journal_of size calls f read))
-told-flushed size calls f read fits mid after count counted made ok w d =
-    told-begun-flush size calls read.tree read.base f read.blocks read.place read.txns calls (is_journal size calls f read fits calls) mid after count counted made ok w d
+module _ (before mid : DiskSeen) (f : Fields) where
+  module _ (which : Which) (bytes : List ℕ) (is : IfSome before.told (IsRecordOf before.size before.calls)) (next : IsSuper bytes (next_generation f)) (chosen : TellsChosen before which f) where
+    journal-written : (read : Read) (good : Bool) → FitsTogether before.size f read → IfSome before.told (IsOn f read) → HasWritten before mid (block_number (other which)) bytes good
+        → IfSome mid.told (HasJournal (journal_of before.size before.calls f read))
+    journal-written read good fits on w =
+        told-raise before.size before.calls read.tree read.base f read.blocks read.place read.txns before.calls (is_journal before.size before.calls f read fits before.calls) before.told is which
+        (if-both before.told (λ r. IsChosen r.contents which f) (IsOn f read) (ReadsAs which f read.blocks read.place) (λ r a b. record { chosen = a; stream = b }) chosen on)
+        bytes next mid.told mid.calls mid.last_made good w.made
+
+    pub raises-written : (good : Bool) → HasWritten before mid (block_number (other which)) bytes good → Raises before mid f
+    raises-written good w = record {
+      since = supers.told-raise before.size before.calls before.told which f bytes next mid.told mid.calls mid.last_made good is chosen w.made;
+      journal = λ read fits on. journal-written read good fits on w;
+    }
+
+    pub next-chosen : (after : DiskSeen) → HasWritten before mid (block_number (other which)) bytes true → HasFlushed mid after true → IfSome after.told (ChoosesNext before.calls)
+    next-chosen after w v = supers.told-raised before.size before.calls before.told which f bytes next mid.told after.told is chosen
+        (good-made before.calls mid.calls mid.last_made (Writes before.told mid.told (block_number (other which)) bytes true) (mid.told ≡ before.told) w.made)
+        (good-made mid.calls after.calls after.last_made (Flushes mid.told after.told true) (after.told ≡ mid.told) v.made)
+
+  pub raises-flushed : (after : DiskSeen) (good : Bool) → Raises before mid f → HasFlushed mid after good → Raises before after f
+  raises-flushed after good r w = record {
+    since = supers.told-flush mid.told after.told before.calls mid.calls after.calls after.last_made good w.made r.since;
+    journal = λ read fits on.
+        told-begun-flush before.size before.calls read.tree read.base f read.blocks read.place read.txns before.calls (is_journal before.size before.calls f read fits before.calls)
+        mid.told after.told mid.calls after.calls after.last_made good w.made (r.journal read fits on);
+  }
 
 -- ---- before the write
 
-module _ (size : ℕ) (told : Option DiskRecord) (f : Fields) (c : Contents) (is : IsRead size told f c) where
+module _ (seen : DiskSeen) (f : Fields) (c : Contents) (is : IsRead seen f c) where
   -- the place after the blocks of the stream
   pub next_place : c.next.sequence ≡ f.sequence + c.closed
   next_place = omega (arith, series-next f.generation (start_of f) c.next is.blocks is.reading.head.series, is.closed_is)
@@ -61,7 +82,7 @@ module _ (size : ℕ) (told : Option DiskRecord) (f : Fields) (c : Contents) (is
   pub closed_few : c.closed ≤ f.ring
   closed_few = omega (arith, is.few, is.closed_is)
 
-  pub fits_together : FitsTogether size f (read_of c is.blocks)
+  pub fits_together : FitsTogether seen.size f (read_of c is.blocks)
   fits_together = record { few = is.few; reading = is.reading; stands = is.stands }
 
   abbrev lists : List (List PlainItem)
@@ -70,7 +91,7 @@ module _ (size : ℕ) (told : Option DiskRecord) (f : Fields) (c : Contents) (is
   module _ (s : Session) (base_is : s.base ≡ c.base) (txns_are : s.txns ≡ c.txns) (tree_is : s.tree ≡ c.tree)
       (nodes_are : s.nodes ≡ c.nodes) (fresh : s.history.items ≡ []) (none : s.settled ≡ 0)
       (next : s.next ≡ record { id = c.next_id; store = c.next_store }) where
-    session_of : (from : ℕ) → IsSessionOf (journal_of size from f (read_of c is.blocks)) s
+    session_of : (from : ℕ) → IsSessionOf (journal_of seen.size from f (read_of c is.blocks)) s
     session_of from = record {
       base = base_is;
       txns = ap txns_of txns_are;
@@ -86,7 +107,7 @@ module _ (size : ℕ) (told : Option DiskRecord) (f : Fields) (c : Contents) (is
     pub is_prepared : (ring : RingState) (pool : Region) (start : Start) → start ≡ start_of f
         → ring ≡ record { start = start; size = f.ring; epoch = f.generation + 1; closed = c.closed; chain = c.next.chain; text = []; promised = 0; queued = 0; buffers = [] }
         → IsRing ring → IsSound pool → blocks_out pool ≡ 0 → f.ring + 1 ≤ 2 ^ pool.order
-        → IsPrepared size f (read_of c is.blocks) s ring pool
+        → IsPrepared seen.size f (read_of c is.blocks) s ring pool
     is_prepared ring pool start begins e ring_is sound out enough = record {
       session = session_of;
       ring_is = e
@@ -122,24 +143,83 @@ module _ (size : ℕ) (f : Fields) (read : Read) (fits : FitsTogether size f rea
   pub live_begun : live ring ≡ length read.blocks + 1
   live_begun = ap live p.ring_is ∙ omega arith
 
-  module _ (from : ℕ) (after : Option DiskRecord) (has : IfSome after (HasJournal (journal_of size from f read))) where
-    pub keeps_prefix : (opening : Tree) (base : ℕ) → IfSome after (KeepsPrefix size from opening base [])
-    keeps_prefix opening base = told-unfinished size from read.tree read.base f read.blocks read.place read.txns after opening base fits.reading fits.stands has
+  module _ (from : ℕ) (after : DiskSeen) (same : after.size ≡ size) (has : IfSome after.told (HasJournal (journal_of size from f read))) where
+    pub keeps_prefix : (opening : Tree) (base : ℕ) → IfSome after.told (KeepsPrefix after.size from opening base [])
+    keeps_prefix opening base = subst (λ (n : ℕ). IfSome after.told (KeepsPrefix n from opening base [])) (sym same)
+        (told-unfinished size from read.tree read.base f read.blocks read.place read.txns after.told opening base fits.reading fits.stands has)
 
-    pub is_store : (now calls : ℕ) → now ≡ size → IfSome after (ChoosesNext from) → IsStore now calls after from s ring pool
-    is_store now calls same next = record {
+    pub is_store : IfSome after.told (ChoosesNext from) → IsStore after from s ring pool
+    is_store next = record {
       journal = journal_of size from f read;
       size_is = sym same;
       from_is = refl;
       opens = fits.stands;
-      mounted = mounted-new size from read.tree read.base f read.blocks read.place read.txns calls after ring pool fits.reading fits.few fits.stands
-          (told-mounted (journal_of size from f read) after has next) p.ring_is;
+      mounted = mounted-new size from read.tree read.base f read.blocks read.place read.txns after.calls after.told ring pool fits.reading fits.few fits.stands
+          (told-mounted (journal_of size from f read) after.told has next) p.ring_is;
       session = p.session from;
       buffers = p.buffers;
     }
 
 -- what a stop leaves before the first commit
-pub images_begun : (told : Option DiskRecord) (size from : ℕ) (txns : Transactions) (base : ℕ) → IfSome told (ChoosesSince from) → IfSome told (ChoosesNext from) → ((opening : Tree) (number : ℕ) → IfSome told (KeepsPrefix size from opening number []))
+images_in : (told : Option DiskRecord) (size from : ℕ) (txns : Transactions) (base : ℕ) → IfSome told (ChoosesSince from) → IfSome told (ChoosesNext from) → ((opening : Tree) (number : ℕ) → IfSome told (KeepsPrefix size from opening number []))
     → IfSome told (KeepsImages size from txns base [])
-images_begun None size from txns base since next prefix = tt
-images_begun (Some r) size from txns base since next prefix = record { super = since; next = next; prefix = λ opening opens. prefix opening base }
+images_in None size from txns base since next prefix = tt
+images_in (Some r) size from txns base since next prefix = record { super = since; next = next; prefix = λ opening opens. prefix opening base }
+
+pub images_begun : (after : DiskSeen) (from : ℕ) (txns : Transactions) (base : ℕ) → LeavesOpening from after → IfSome after.told (ChoosesNext from) → IfSome after.told (KeepsImages after.size from txns base [])
+images_begun after from txns base left next = images_in after.told after.size from txns base left.super next left.prefix
+
+-- ---- what a beginning leaves
+
+-- nothing was asked of the disk
+pub opening_untouched : (seen : DiskSeen) → IfSome seen.told (IsRecordOf seen.size seen.calls) → LeavesOpening seen.calls seen
+opening_untouched seen is = record {
+  super = supers.told-begun seen.size seen.calls seen.told is;
+  prefix = λ opening base. told-untouched seen.size seen.calls opening base seen.told is;
+}
+
+module _ (before : DiskSeen) (found : Found) (c : Contents) (can : CanBegin before found c) where
+  abbrev sup : Fields
+  sup = fields_of found.sup
+
+  abbrev read : Read
+  read = read_of c can.read.blocks
+
+  -- the superblock can be raised
+  pub two_slots : 2 ≤ before.size
+  two_slots = omega (arith, can.read.reading.head.blocks, can.read.reading.head.rules.blocks_least)
+
+  pub generation_room : sup.generation + 1 ≤ MAX_GENERATION
+  generation_room = omega (arith, can.read.reading.room.generations)
+
+  module _ (s : Session) (ring : RingState) (pool : Region) (p : IsPrepared before.size sup read s ring pool) where
+    -- the superblock was raised, or that was tried
+    module _ (after : DiskSeen) (goes : GoesOn before after) (raises : Raises before after sup) where
+      has : IfSome after.told (HasJournal (journal_of before.size before.calls sup read))
+      has = raises.journal read (fits_together before sup c can.read) can.read.stream
+
+      pub opening_raised : LeavesOpening before.calls after
+      opening_raised = record {
+        super = raises.since;
+        prefix = keeps_prefix before.size sup read (fits_together before sup c can.read) s ring pool p before.calls after goes.size has;
+      }
+
+      pub store_begun : (from : ℕ) → from ≡ before.calls → IfSome after.told (ChoosesNext before.calls) → IsStore after from s ring pool
+      store_begun from same next = subst (λ (n : ℕ). IsStore after n s ring pool) (sym same)
+          (is_store before.size sup read (fits_together before sup c can.read) s ring pool p before.calls after goes.size has next)
+
+      pub images_raised : (from : ℕ) → from ≡ before.calls → IfSome after.told (ChoosesNext before.calls) → IfSome after.told (KeepsImages after.size from (txns_of s.txns) s.base [])
+      images_raised from same next = subst (λ (n : ℕ). IfSome after.told (KeepsImages after.size n (txns_of s.txns) s.base [])) (sym same)
+          (images_begun after before.calls (txns_of s.txns) s.base opening_raised next)
+
+    pub begun_with : {Device : Type 0} (disk : Device) (from : ℕ) → from ≡ before.calls
+        → HasBegun before found c (record { disk = disk; from = from; base = s.base; txns = txns_of s.txns; history = s.history.items; ring = ring.size; live = live ring; waiting = ring.queued + begun ring.text })
+    begun_with disk from same = record {
+      from = same;
+      base = (p.session 0).base;
+      txns = (p.session 0).txns;
+      history = (p.session 0).history;
+      ring = ap (λ (r : RingState). r.size) p.ring_is;
+      live = live_begun before.size sup read (fits_together before sup c can.read) s ring pool p ∙ omega (arith, can.read.closed_is);
+      waiting = nothing_waits before.size sup read (fits_together before sup c can.read) s ring pool p;
+    }

@@ -1,6 +1,6 @@
 -- What a mounted disk keeps inside, over all that happens to it.
 use Rattle.std.proofs.Common.{◌≡◌, ℕ, ◌+◌, ◌*◌, ◌^◌, ◌≤◌, ◌<◌, Bool, true, List, [], ◌∷◌, ◌++◌, length, length-append, drop, refl, sym, ap, subst, ◌∙◌, append_assoc, arith}
-use Rattle.std.specs.Prelude.{Option, None, Some, IfSome, All, Ok, sum_by}
+use Rattle.std.specs.Prelude.{None, Some, IfSome, All, Ok, sum_by}
 use Rattle.std.proofs.lemmas.List.{length-drop}
 use Rattle.std.proofs.lemmas.List.Elements.{All-head, All-tail}
 use Rattle.fx_item.specs.Item.{PlainItem}
@@ -21,11 +21,11 @@ use Rattle.fx_history.specs.declared.entry.Entry.{Entry}
 use Rattle.fx_history.specs.History.{SettledFirst, tree_at, settle}
 use Rattle.fx_history.proofs.Histories.{tree_next}
 use Rattle.fx_history.proofs.Settling.{tree_now_settle}
-use Rattle.fx_disk.specs.Record.{DiskRecord}
+use Rattle.fx_disk.specs.Seen.{DiskSeen, HasFlushed, HasWritten}
 use Rattle.fx_disk.proofs.Told.{told-map}
-use Rattle.fx_disk.specs.Steps.{IsRecordOf, Writes, Flushes, MadeOrNot}
+use Rattle.fx_disk.specs.Steps.{IsRecordOf}
 use Rattle.fx_pool.specs.Region.{Region}
-use Rattle.fx_journal.specs.Ring.{RingState, IsRing, KeepsBuffers, Queued, HoldsQueue, Appended, begun, blocks_out, next_block, padded, padded_by, padding, run_blocks, texts, without_first}
+use Rattle.fx_journal.specs.Ring.{RingState, IsRing, KeepsBuffers, KeepsRing, Queued, HoldsQueue, Appended, begun, blocks_out, next_block, padded, padded_by, padding, run_blocks, texts, without_first}
 use Rattle.fx_journal.specs.Writing.{block_at, first_bytes}
 use Rattle.fx_image.specs.Replay.{AreItemsOf}
 use Rattle.fx_log.specs.Ring.{HasRecords}
@@ -99,11 +99,11 @@ none-begun (x ∷ xs) e = absurd (omega (arith, e))
 
 -- ---- the state
 
-module _ (size calls : ℕ) (told : Option DiskRecord) (from : ℕ) (s : Session) (ring : RingState) (pool : Region) (h : IsStore size calls told from s ring pool) where
+module _ {seen : DiskSeen} {from : ℕ} {s : Session} {ring : RingState} {pool : Region} (h : IsStore seen from s ring pool) where
   abbrev j : Journal
   j = h.journal
 
-  abbrev is_journal : IsJournal j calls
+  abbrev is_journal : IsJournal j seen.calls
   is_journal = h.mounted.journal
 
   length-is : length s.history.items ≡ length j.commits.history
@@ -131,15 +131,15 @@ module _ (size calls : ℕ) (told : Option DiskRecord) (from : ℕ) (s : Session
     stands = subst (λ (t : Tree). StandsFor (items_now j) (bare t)) (sym h.session.tree) (replay_now j.opening.tree j.opening.base j.opening.txns j.commits.history j.commits.records is_journal.replays);
     knows = h.session.knows;
     below = subst (λ (n : ℕ). IsBelow (items_now j) s.next.id n) (sym h.session.store)
-        (subst (λ (n : ℕ). IsBelow (items_now j) n (next_store_after j.log.head.super.next_store (lists_of j.opening.txns ++ j.commits.records))) (sym h.session.id) (below-now j calls is_journal));
-    ids = omega (arith, h.session.id, id-low j calls is_journal);
-    stores = omega (arith, h.session.store, store-low j calls is_journal);
+        (subst (λ (n : ℕ). IsBelow (items_now j) n (next_store_after j.log.head.super.next_store (lists_of j.opening.txns ++ j.commits.records))) (sym h.session.id) (below-now j seen.calls is_journal));
+    ids = omega (arith, h.session.id, id-low j seen.calls is_journal);
+    stores = omega (arith, h.session.store, store-low j seen.calls is_journal);
   }
 
   -- ---- lines
 
   -- a commit is prepared: the session may note a node
-  abbrev pub store-prepared : (t : Session) → t ≡ record s { nodes = t.nodes; history = t.history } → t.history.items ≡ s.history.items → ((items : ItemMap) → IsSession items s → IsSession items t) → IsStore size calls told from t ring pool
+  abbrev pub store-prepared : (t : Session) → t ≡ record s { nodes = t.nodes; history = t.history } → t.history.items ≡ s.history.items → ((items : ItemMap) → IsSession items s → IsSession items t) → IsStore seen from t ring pool
   store-prepared t e items noted = record {
     journal = j;
     size_is = h.size_is;
@@ -160,14 +160,14 @@ module _ (size calls : ℕ) (told : Option DiskRecord) (from : ℕ) (s : Session
   }
 
   -- it is not done
-  pub store-undone : (t : Session) (new : RingState) (region : Region) → Undone s t ring new pool region → IsStore size calls told from t new region
-  store-undone t new region u = subst (λ (x : Session). IsStore size calls told from x new region) (sym u.session)
+  pub store-undone : (t : Session) (new : RingState) (region : Region) → Undone s t ring new pool region → IsStore seen from t new region
+  store-undone t new region u = subst (λ (x : Session). IsStore seen from x new region) (sym u.session)
       (record {
         journal = j;
         size_is = h.size_is;
         from_is = h.from_is;
         opens = h.opens;
-        mounted = mounted-promised j calls told ring pool h.mounted new region ring.promised new.buffers u.ring_is u.queue;
+        mounted = mounted-promised j seen.calls seen.told ring pool h.mounted new region ring.promised new.buffers u.ring_is u.queue;
         session = h.session;
         buffers = u.buffers;
       })
@@ -212,14 +212,14 @@ module _ (size calls : ℕ) (told : Option DiskRecord) (from : ℕ) (s : Session
         ∙ sym (after_one (tree_at j.opening.tree j.commits.history (j.opening.base + length j.commits.history)) entry step answer.0 one done-there)
         ∙ sym (tree_next j.opening.tree j.opening.base j.commits.history entry is_journal.legal numbered)
 
-    pub store-done : IsStore size calls told from t new region
+    pub store-done : IsStore seen from t new region
     store-done = record {
       journal = k;
       size_is = h.size_is;
       from_is = h.from_is;
       opens = h.opens;
-      mounted = mounted-commit j calls told ring pool h.mounted entry list
-          (next-commit j calls is_journal entry step list answer.0 (commits-few j calls is_journal (omega (arith, h.buffers.ring_is.unfinished_room, ap length h.mounted.ring_is.text))) numbered settled who one done-there are)
+      mounted = mounted-commit j seen.calls seen.told ring pool h.mounted entry list
+          (next-commit j seen.calls is_journal entry step list answer.0 (commits-few j seen.calls is_journal (omega (arith, h.buffers.ring_is.unfinished_room, ap length h.mounted.ring_is.text))) numbered settled who one done-there are)
           new region d.buffers.ring_is d.start d.size d.epoch d.queued appended;
       session = record {
         base = ap (λ (x : Session). x.base) d.session ∙ h.session.base;
@@ -236,63 +236,63 @@ module _ (size calls : ℕ) (told : Option DiskRecord) (from : ℕ) (s : Session
 
   -- ---- the disk
 
-  pub store-padded : (new : RingState) (region : Region) → new ≡ padded ring → IsRing new → KeepsBuffers new.buffers region → region.out ≡ pool.out → region.order ≡ pool.order
-      → ((queue : List Queued) → HoldsQueue ring pool queue → HoldsQueue new region (queue ++ padding ring)) → IsStore size calls told from s new region
-  store-padded new region e is keeps out order queue = record {
+  pub store-padded : (new : RingState) (region : Region) → new ≡ padded ring → KeepsRing ring new pool region → region.out ≡ pool.out
+      → ((queue : List Queued) → HoldsQueue ring pool queue → HoldsQueue new region (queue ++ padding ring)) → IsStore seen from s new region
+  store-padded new region e kept out queue = record {
     journal = with_closed j (padding ring) new.chain new.text;
     size_is = h.size_is;
     from_is = h.from_is;
     opens = h.opens;
-    mounted = mounted-padded j calls told ring pool h.mounted new region is e (queue (drop j.log.tail.written j.log.tail.blocks) h.mounted.ring_is.queue);
+    mounted = mounted-padded j seen.calls seen.told ring pool h.mounted new region kept.ring e (queue (drop j.log.tail.written j.log.tail.blocks) h.mounted.ring_is.queue);
     session = record { base = h.session.base; txns = h.session.txns; history = h.session.history; settled = h.session.settled; tree = h.session.tree; knows = h.session.knows; id = h.session.id; store = h.session.store };
-    buffers = buffers-padded ring new pool region h.buffers e is keeps out order;
+    buffers = buffers-padded ring new pool region h.buffers e kept.ring kept.buffers out kept.others.order;
   }
 
-  module _ (after_told : Option DiskRecord) (counted size_after : ℕ) (made ok : Bool) (same_size : size_after ≡ size) (is : IfSome told (IsRecordOf size calls)) where
+  module _ (later : DiskSeen) (good : Bool) (is : IfSome seen.told (IsRecordOf seen.size seen.calls)) where
     -- the first block that waits is written, or the write failed
     module _ (before sequence : ℕ) (next : next_block ring before ≡ Some sequence)
-        (w : (queue : List Queued) → HoldsQueue ring pool queue → MadeOrNot calls counted made ok (Writes told after_told (block_at ring sequence) (first_bytes ring.epoch queue) ok) (after_told ≡ told)) where
-      abbrev wrote : MadeOrNot calls counted made ok (Writes told after_told (block_at ring sequence) (first_bytes ring.epoch (drop j.log.tail.written j.log.tail.blocks)) ok) (after_told ≡ told)
+        (w : (queue : List Queued) → HoldsQueue ring pool queue → HasWritten seen later (block_at ring sequence) (first_bytes ring.epoch queue) good) where
+      abbrev wrote : HasWritten seen later (block_at ring sequence) (first_bytes ring.epoch (drop j.log.tail.written j.log.tail.blocks)) good
       wrote = w (drop j.log.tail.written j.log.tail.blocks) h.mounted.ring_is.queue
 
-      pub store-tried : IsStore size_after counted after_told from s ring pool
+      pub store-tried : IsStore later from s ring pool
       store-tried = record {
         journal = j;
-        size_is = h.size_is ∙ sym same_size;
+        size_is = h.size_is ∙ sym wrote.size;
         from_is = h.from_is;
         opens = h.opens;
-        mounted = mounted-tried j calls told ring pool h.mounted size is after_told counted made ok before sequence next wrote;
+        mounted = mounted-tried j seen.calls seen.told ring pool h.mounted seen.size is later.told later.calls later.last_made good before sequence next wrote.made;
         session = h.session;
         buffers = h.buffers;
       }
 
-      pub store-written : ok ≡ true → (new : RingState) (region : Region) → new ≡ without_first ring → IsRing new → KeepsBuffers new.buffers region → blocks_out region + length ring.buffers ≡ blocks_out pool + length new.buffers → region.order ≡ pool.order
-          → ((queue : List Queued) → HoldsQueue ring pool queue → HoldsQueue new region (drop 1 queue)) → IsStore size_after counted after_told from s new region
-      store-written good new region e ring_is keeps given order queue = record {
+      pub store-written : good ≡ true → (new : RingState) (region : Region) → new ≡ without_first ring → KeepsRing ring new pool region → blocks_out region + length ring.buffers ≡ blocks_out pool + length new.buffers
+          → ((queue : List Queued) → HoldsQueue ring pool queue → HoldsQueue new region (drop 1 queue)) → IsStore later from s new region
+      store-written yes new region e kept given queue = record {
         journal = with_written j;
-        size_is = h.size_is ∙ sym same_size;
+        size_is = h.size_is ∙ sym wrote.size;
         from_is = h.from_is;
         opens = h.opens;
-        mounted = mounted-written j calls told ring pool h.mounted size is after_told counted made ok before sequence next wrote good new region e (queue (drop j.log.tail.written j.log.tail.blocks) h.mounted.ring_is.queue);
+        mounted = mounted-written j seen.calls seen.told ring pool h.mounted seen.size is later.told later.calls later.last_made good before sequence next wrote.made yes new region e (queue (drop j.log.tail.written j.log.tail.blocks) h.mounted.ring_is.queue);
         session = record { base = h.session.base; txns = h.session.txns; history = h.session.history; settled = h.session.settled; tree = h.session.tree; knows = h.session.knows; id = h.session.id; store = h.session.store };
-        buffers = buffers-written ring new pool region h.buffers e ring_is keeps given order;
+        buffers = buffers-written ring new pool region h.buffers e kept.ring kept.buffers given kept.others.order;
       }
 
     -- the disk is flushed, or the flush failed
-    module _ (w : MadeOrNot calls counted made ok (Flushes told after_told ok) (after_told ≡ told)) where
-      pub store-flush-tried : IsStore size_after counted after_told from s ring pool
+    module _ (w : HasFlushed seen later good) where
+      pub store-flush-tried : IsStore later from s ring pool
       store-flush-tried = record {
         journal = j;
-        size_is = h.size_is ∙ sym same_size;
+        size_is = h.size_is ∙ sym w.size;
         from_is = h.from_is;
         opens = h.opens;
-        mounted = mounted-flush-tried j calls told ring pool h.mounted size is after_told counted made ok w;
+        mounted = mounted-flush-tried j seen.calls seen.told ring pool h.mounted seen.size is later.told later.calls later.last_made good w.made;
         session = h.session;
         buffers = h.buffers;
       }
 
       -- no block waits
-      module _ (good : ok ≡ true) (none : ring.queued + begun ring.text ≡ 0) where
+      module _ (yes : good ≡ true) (none : ring.queued + begun ring.text ≡ 0) where
         out : IsWrittenOut j.log.tail
         out = record {
           written = omega (arith, none, h.mounted.ring_is.queue.count, length-drop j.log.tail.written j.log.tail.blocks, is_journal.tail.most);
@@ -300,22 +300,22 @@ module _ (size calls : ℕ) (told : Option DiskRecord) (from : ℕ) (s : Session
         }
 
         abbrev flushed : Journal
-        flushed = with_settled (calls + 1) j
+        flushed = with_settled (seen.calls + 1) j
 
-        mounted-now : IsMounted flushed counted after_told ring pool
-        mounted-now = mounted-settled j calls told ring pool h.mounted size is after_told counted made ok w good out
+        mounted-now : IsMounted flushed later.calls later.told ring pool
+        mounted-now = mounted-settled j seen.calls seen.told ring pool h.mounted seen.size is later.told later.calls later.last_made good w.made yes out
 
-        counted-is : counted ≡ calls + 1
-        counted-is = made-counts calls counted made ok _ _ good w
+        counted-is : later.calls ≡ seen.calls + 1
+        counted-is = made-counts seen.calls later.calls later.last_made good _ _ yes w.made
 
-        module _ (t : Session) (e : t ≡ record s { settled = length s.history.items; history = t.history }) (items : t.history.items ≡ settle counted s.history.items) where
-          history-is : t.history.items ≡ settle (calls + 1) j.commits.history
-          history-is = items ∙ ap (λ (n : ℕ). settle n s.history.items) counted-is ∙ ap (settle (calls + 1)) h.session.history
+        module _ (t : Session) (e : t ≡ record s { settled = length s.history.items; history = t.history }) (items : t.history.items ≡ settle later.calls s.history.items) where
+          history-is : t.history.items ≡ settle (seen.calls + 1) j.commits.history
+          history-is = items ∙ ap (λ (n : ℕ). settle n s.history.items) counted-is ∙ ap (settle (seen.calls + 1)) h.session.history
 
-          pub store-settled : IsStore size_after counted after_told from t ring pool
+          pub store-settled : IsStore later from t ring pool
           store-settled = record {
             journal = flushed;
-            size_is = h.size_is ∙ sym same_size;
+            size_is = h.size_is ∙ sym w.size;
             from_is = h.from_is;
             opens = h.opens;
             mounted = mounted-now;
@@ -324,7 +324,7 @@ module _ (size calls : ℕ) (told : Option DiskRecord) (from : ℕ) (s : Session
               txns = ap (λ (x : Session). txns_of x.txns) e ∙ h.session.txns;
               history = history-is;
               settled = ap (λ (x : Session). x.settled) e ∙ length-is;
-              tree = ap (λ (x : Session). x.tree) e ∙ h.session.tree ∙ sym (tree_now_settle j.opening.tree j.opening.base (calls + 1) j.commits.history);
+              tree = ap (λ (x : Session). x.tree) e ∙ h.session.tree ∙ sym (tree_now_settle j.opening.tree j.opening.base (seen.calls + 1) j.commits.history);
               knows = subst (KnowsNodes (items_now j)) (ap (λ (x : Session). x.nodes) (sym e)) h.session.knows;
               id = ap (λ (x : Session). x.next.id) e ∙ h.session.id;
               store = ap (λ (x : Session). x.next.store) e ∙ h.session.store;
@@ -333,21 +333,21 @@ module _ (size calls : ℕ) (told : Option DiskRecord) (from : ℕ) (s : Session
           }
 
           -- every image left has the whole history
-          pub store-whole : IfSome after_told (KeepsWhole size_after from (txns_of s.txns) s.base t.history.items)
-          store-whole = told-map (KeepsAll flushed.log.size flushed.log.from flushed.opening.tree flushed.opening.base flushed.commits.history) (KeepsWhole size_after from (txns_of s.txns) s.base t.history.items) after_told
+          pub store-whole : IfSome later.told (KeepsWhole later.size from (txns_of s.txns) s.base t.history.items)
+          store-whole = told-map (KeepsAll flushed.log.size flushed.log.from flushed.opening.tree flushed.opening.base flushed.commits.history) (KeepsWhole later.size from (txns_of s.txns) s.base t.history.items) later.told
               (λ r all opening opens.
-              subst (λ (n : ℕ). KeepsAll n from opening s.base t.history.items r) (h.size_is ∙ sym same_size)
+              subst (λ (n : ℕ). KeepsAll n from opening s.base t.history.items r) (h.size_is ∙ sym w.size)
               (subst (λ (n : ℕ). KeepsAll j.log.size n opening s.base t.history.items r) h.from_is
               (subst (λ (x : Tree). KeepsAll j.log.size j.log.from x s.base t.history.items r) (sym (opening-is opening opens))
               (subst (λ (n : ℕ). KeepsAll j.log.size j.log.from j.opening.tree n t.history.items r) (sym h.session.base)
               (subst (λ (es : List Entry). KeepsAll j.log.size j.log.from j.opening.tree j.opening.base es r) (sym history-is) all)))))
-              (mounted-all flushed counted after_told ring pool mounted-now (settled-out (calls + 1) j out) refl)
+              (mounted-all flushed later.calls later.told ring pool mounted-now (settled-out (seen.calls + 1) j out) refl)
 
   -- ---- the end
 
   -- no entry is settled by a later call than were made
-  pub store-by-now : All (λ (entry : Entry). entry.settled ≤ calls) s.history.items
-  store-by-now = subst (All (λ (entry : Entry). entry.settled ≤ calls)) (sym h.session.history) is_journal.marked.by_now
+  pub store-by-now : All (λ (entry : Entry). entry.settled ≤ seen.calls) s.history.items
+  store-by-now = subst (All (λ (entry : Entry). entry.settled ≤ seen.calls)) (sym h.session.history) is_journal.marked.by_now
 
   -- what the session knows of the commits that are settled
   pub store-first : SettledFirst s.settled s.history.items
@@ -361,15 +361,15 @@ module _ (size calls : ℕ) (told : Option DiskRecord) (from : ℕ) (s : Session
   store-queue = (drop j.log.tail.written j.log.tail.blocks, h.mounted.ring_is.queue)
 
   -- the disk has room for the ring
-  pub store-room : ring.size + 2 ≤ size
+  pub store-room : ring.size + 2 ≤ seen.size
   store-room = omega (arith, h.mounted.ring_is.size, is_journal.reading.head.rules.blocks_least, is_journal.reading.head.rules.ring_least, is_journal.reading.head.blocks, h.size_is)
 
   -- there is a buffer for one more block
   pub store-free : blocks_out pool + 1 ≤ 2 ^ pool.order
   store-free = omega (arith, h.buffers.out, h.buffers.enough, h.buffers.promised, h.buffers.ring_is.buffers_len, h.buffers.ring_is.own_places, h.buffers.ring_is.waiting)
 
-  pub store-images : IfSome told (KeepsImages size from (txns_of s.txns) s.base s.history.items)
-  store-images = told-map (IsOnDisk j) (KeepsImages size from (txns_of s.txns) s.base s.history.items) told
+  pub store-images : IfSome seen.told (KeepsImages seen.size from (txns_of s.txns) s.base s.history.items)
+  store-images = told-map (IsOnDisk j) (KeepsImages seen.size from (txns_of s.txns) s.base s.history.items) seen.told
       (λ r d. record {
         super = subst (λ (n : ℕ). ChoosesSince n r) h.from_is d.journal.log.chooses;
         next = subst (λ (n : ℕ). ChoosesNext n r) h.from_is d.next;
@@ -384,27 +384,27 @@ module _ (size calls : ℕ) (told : Option DiskRecord) (from : ℕ) (s : Session
 
 -- ---- a line that changes the tree
 
-module _ (size calls : ℕ) (told : Option DiskRecord) (from : ℕ) (s : Session) (ring : RingState) (pool : Region) (h : IsStore size calls told from s ring pool) (task : Task) (step : Step)
+module _ {seen : DiskSeen} {from : ℕ} {s : Session} {ring : RingState} {pool : Region} (h : IsStore seen from s ring pool) (task : Task) (step : Step)
     (t : Session) (same : t ≡ record s { nodes = t.nodes; history = t.history }) (items : t.history.items ≡ s.history.items) (noted : (m : ItemMap) → IsSession m s → IsSession m t)
     (commit : Commit) (entry_is : commit.entry ≡ entry_of (s.base + length s.history.items + 1) task step) (ready : (m : ItemMap) → IsSession m s → IsReady m t.nodes t.next step commit) where
   abbrev is_ready : IsReady (items_now h.journal) t.nodes t.next step commit
-  is_ready = ready (items_now h.journal) (knows size calls told from s ring pool h)
+  is_ready = ready (items_now h.journal) (knows h)
 
   -- its record fits one block
   pub prepared-length : (1 ≤ length commit.record.items) × (length commit.record.items ≤ 4064)
   prepared-length =
       let r = is_ready in
-      let l = plan_length (items_now h.journal) t.tree t.nodes t.next (noted (items_now h.journal) (knows size calls told from s ring pool h)) step r.list commit.next r.plan commit.entry.number in
+      let l = plan_length (items_now h.journal) t.tree t.nodes t.next (noted (items_now h.journal) (knows h)) step r.list commit.next r.plan commit.entry.number in
       (omega (arith, l.0, ap length r.bytes), omega (arith, l.1, ap length r.bytes))
 
-  pub prepared-done : (u : Session) (new : RingState) (region : Region) → Done step commit t u ring new pool region → 0 < task.client → refused (do_step s.tree step).0 ≡ None → IsStore size calls told from u new region
+  pub prepared-done : (u : Session) (new : RingState) (region : Region) → Done step commit t u ring new pool region → 0 < task.client → refused (do_step s.tree step).0 ≡ None → IsStore seen from u new region
   prepared-done u new region d client done =
-      store-done size calls told from t ring pool (store-prepared size calls told from s ring pool h t same items noted) step commit u new region d is_ready
+      store-done (store-prepared h t same items noted) step commit u new region d is_ready
       (ap (λ (x : Entry). x.number) entry_is ∙ omega (arith, ap (λ (x : Session). x.base) same, ap length items))
       (ap (λ (x : Entry). x.settled) entry_is)
       (omega (arith, client, ap (λ (x : Entry). x.who) entry_is))
       (ap (λ (x : Entry). x.steps) entry_is)
       (ap (λ (x : Session). refused (do_step x.tree step).0) same ∙ done)
 
-  pub prepared-undone : (u : Session) (new : RingState) (region : Region) → Undone t u ring new pool region → IsStore size calls told from u new region
-  prepared-undone = store-undone size calls told from t ring pool (store-prepared size calls told from s ring pool h t same items noted)
+  pub prepared-undone : (u : Session) (new : RingState) (region : Region) → Undone t u ring new pool region → IsStore seen from u new region
+  prepared-undone = store-undone (store-prepared h t same items noted)

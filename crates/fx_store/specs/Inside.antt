@@ -1,9 +1,9 @@
 -- What a mounted disk keeps inside: its session, and the ring with the pool of its buffers, are those of one
 -- journal.
-use Rattle.std.specs.Prelude.{◌≡◌, ℕ, ◌+◌, ◌^◌, ◌≤◌, ◌<◌, List, [], ◌∷◌, ◌++◌, Option, length}
+use Rattle.std.specs.Prelude.{◌≡◌, ℕ, ◌+◌, ◌^◌, ◌≤◌, ◌<◌, List, [], ◌∷◌, ◌++◌, length}
 use Rattle.fx_plain.specs.Table.{do_step}
 use Rattle.fx_plain.specs.declared.step.Step.{Step}
-use Rattle.fx_disk.specs.Record.{DiskRecord}
+use Rattle.fx_disk.specs.Seen.{DiskSeen}
 use Rattle.fx_pool.specs.Region.{Region}
 use Rattle.fx_journal.specs.Ring.{RingState, IsRing, KeepsBuffers, Queued, HoldsQueue, Appended, blocks_out, live}
 use Rattle.fx_item.specs.declared.full.Full.{Full}
@@ -24,13 +24,14 @@ pub record HasBuffers (ring : RingState) (pool : Region) : Type 0 where
   pub enough : ring.size + 1 ≤ 2 ^ pool.order
   pub promised : ring.promised ≡ 0
 
--- The state of a disk of so many blocks after so many calls, which tells this and was mounted after `from` calls.
-pub record IsStore (size calls : ℕ) (told : Option DiskRecord) (from : ℕ) (s : Session) (ring : RingState) (pool : Region) : Type 0 where
+-- The state of a disk that was mounted after `from` calls.
+pub record IsStore (seen : DiskSeen) (from : ℕ) (s : Session) (ring : RingState) (pool : Region)
+    : Type 0 where
   pub journal : Journal
-  pub size_is : journal.log.size ≡ size
+  pub size_is : journal.log.size ≡ seen.size
   pub from_is : journal.log.from ≡ from
   pub opens : StandsFor (items_after journal.opening.txns) journal.opening.tree
-  pub mounted : IsMounted journal calls told ring pool
+  pub mounted : IsMounted journal seen.calls seen.told ring pool
   pub session : IsSessionOf journal s
   pub buffers : HasBuffers ring pool
 
@@ -49,10 +50,13 @@ pub record Undone (s t : Session) (ring new : RingState) (pool region : Region) 
   pub buffers : HasBuffers new region
 
 -- The step is done, the history has the entry, and the record's bytes were appended.
-pub record Done (step : Step) (commit : Commit) (s t : Session) (ring new : RingState) (pool region : Region) : Type 0 where
-  pub session : t ≡ record s { tree = (do_step s.tree step).1; history = t.history; next = commit.next }
+pub record Done (step : Step) (commit : Commit)
+    (s t : Session) (ring new : RingState) (pool region : Region) : Type 0 where
+  pub session :
+      t ≡ record s { tree = (do_step s.tree step).1; history = t.history; next = commit.next }
   pub history : t.history.items ≡ s.history.items ++ commit.entry ∷ []
-  pub appended : (queue : List Queued) → HoldsQueue ring pool queue → Appended ring new region queue commit.record.items
+  pub appended : (queue : List Queued) → HoldsQueue ring pool queue
+      → Appended ring new region queue commit.record.items
   pub queued : new.queued + ring.closed ≡ ring.queued + new.closed
   pub start : new.start ≡ ring.start
   pub size : new.size ≡ ring.size
@@ -62,7 +66,9 @@ pub record Done (step : Step) (commit : Commit) (s t : Session) (ring new : Ring
   pub live_stays : live ring ≤ live new
   pub live_rises : live new ≤ live ring + 1
 
-abbrev pub Puts : Step → Commit → (s t : Session) → (ring new : RingState) → (pool region : Region) → PutEnd → Type 0
+abbrev pub Puts : Step → Commit → (s t : Session) → (ring new : RingState) → (pool region : Region)
+    → PutEnd → Type 0
 Puts step commit s t ring new pool region ends.Done = Done step commit s t ring new pool region
-Puts step commit s t ring new pool region (ends.Full full) = Undone s t ring new pool region × IsFull ring full
+Puts step commit s t ring new pool region (ends.Full full) =
+    Undone s t ring new pool region × IsFull ring full
 Puts step commit s t ring new pool region ends.OutOfMemory = Undone s t ring new pool region

@@ -1,5 +1,3 @@
-pub mod Zeros
-pub mod Calls
 pub mod Nodes
 pub mod Line
 pub mod Mounted

@@ -1,8 +1,10 @@
--- What a line puts into the history, and how one that looks at the tree ends.
+-- What a line puts into the history, how one that looks at the tree ends, and how often a line flushes.
 use Rattle.std.specs.Prelude.{◌≡◌, ℕ, [], ◌∷◌, Result, Ok, Err}
 use Rattle.fx_plain.specs.declared.step.Step.{Step}
 use Rattle.fx_plain.specs.declared.step.Answer.{Answer}
 use Rattle.fx_plain.specs.declared.step.Refusal.{Refusal}
+use Rattle.fx_script.specs.declared.line.Line.{Line}
+use Rattle.fx_script.specs.declared.line.Line.TheVariants.{Single, Sync}
 use Rattle.fx_script.specs.declared.script.Task.{Task}
 use Rattle.fx_history.specs.declared.entry.Entry.{Entry}
 use Rattle.fx_history.specs.declared.outcome.EndKind.{EndKind}
@@ -10,17 +12,20 @@ use Rattle.fx_history.specs.declared.outcome.EndKind.TheVariants.{Committed, See
 
 -- the commit of a line with this step
 abbrev pub entry_of : ℕ → Task → Step → Entry
-entry_of number task step = record { number = number; who = task.client; line = task.number; steps = step ∷ []; settled = 0 }
+entry_of number task step = record {
+  number = number;
+  who = task.client;
+  line = task.number;
+  steps = step ∷ [];
+  settled = 0;
+}
 
 -- A line whose one step has this outcome on the tree ends so, unless memory runs out.
 abbrev pub EndsAs : Result Answer Refusal → EndKind → Type 0
-EndsAs outcome Committed = ⊥
 EndsAs outcome (Seen answer) = outcome ≡ Ok answer
 EndsAs outcome (Refused index refusal) = (index ≡ 1) × (outcome ≡ Err refusal)
-EndsAs outcome (Full full) = ⊥
-EndsAs outcome (Synced calls) = ⊥
-EndsAs outcome (DeviceFault count) = ⊥
 EndsAs outcome OutOfMemory = Unit {0}
+EndsAs outcome other = ⊥
 
 -- the entry, settled after so many calls of the disk
 abbrev pub settled_entry : ℕ → Entry → Entry
@@ -28,28 +33,24 @@ settled_entry calls entry = record entry { settled = calls }
 
 -- how a line ends whose step looks at the tree, one whose step changes it, and a sync
 abbrev pub Looks : EndKind → Type 0
-Looks Committed = ⊥
 Looks (Seen answer) = Unit {0}
 Looks (Refused index refusal) = Unit {0}
-Looks (Full full) = ⊥
-Looks (Synced calls) = ⊥
-Looks (DeviceFault count) = ⊥
 Looks OutOfMemory = Unit {0}
+Looks other = ⊥
 
 abbrev pub Changes : EndKind → Type 0
 Changes Committed = Unit {0}
-Changes (Seen answer) = ⊥
 Changes (Refused index refusal) = Unit {0}
 Changes (Full full) = Unit {0}
-Changes (Synced calls) = ⊥
-Changes (DeviceFault count) = ⊥
 Changes OutOfMemory = Unit {0}
+Changes other = ⊥
 
 abbrev pub Syncs : EndKind → Type 0
-Syncs Committed = ⊥
-Syncs (Seen answer) = ⊥
-Syncs (Refused index refusal) = ⊥
-Syncs (Full full) = ⊥
 Syncs (Synced calls) = Unit {0}
 Syncs (DeviceFault count) = Unit {0}
-Syncs OutOfMemory = ⊥
+Syncs other = ⊥
+
+-- how many flushes a line makes at most
+abbrev pub flushes : Line → ℕ
+flushes (Single step) = 0
+flushes Sync = 1

@@ -18,7 +18,8 @@ abbrev pub table_of : {V : Type 0} → List (Vec (List ℕ) Global × V) → map
 table_of es = map.from_entries (by_path es)
 
 abbrev pub node_code : Coded NodeId
-node_code = code_by (ℕ × ℕ) (coded× coded_ℕ coded_ℕ) (λ n. (n.store, n.id)) (λ p. record { store = p.0; id = p.1 }) (λ _. refl)
+node_code = code_by (ℕ × ℕ) (coded× coded_ℕ coded_ℕ)
+    (λ n. (n.store, n.id)) (λ p. record { store = p.0; id = p.1 }) (λ _. refl)
 
 abbrev pub table_code : Coded NodeTable
 table_code = map.code (coded_list (coded_list coded_ℕ)) node_code

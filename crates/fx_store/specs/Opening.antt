@@ -1,11 +1,13 @@
 -- What a store begins with.
-use Rattle.std.specs.Prelude.{◌≡◌, ℕ, ◌+◌, ◌≤◌, Option, List, [], length}
+use Rattle.std.specs.Prelude.{◌≡◌, ℕ, ◌+◌, ◌≤◌, Result, Ok, Err, List, [], length}
 use Rattle.std.specs.Option.{IfSome}
 use Rattle.fx_item.specs.Look.{next_id_after, next_store_after}
 use Rattle.fx_disk.specs.Record.{DiskRecord}
+use Rattle.fx_disk.specs.Seen.{DiskSeen}
 use Rattle.fx_plain.specs.Tree.{Tree}
 use Rattle.fx_super.specs.Super.{Fields, fields_of}
 use Rattle.fx_super.specs.Chosen.{IsChosen}
+use Rattle.fx_super.specs.declared.choice.Which.{Which}
 use Rattle.fx_jblock.specs.declared.Start.{Start}
 use Rattle.fx_journal.specs.Ring.{RingState}
 use Rattle.fx_journal.specs.Stream.{IsStream}
@@ -14,31 +16,55 @@ use Rattle.fx_pool.specs.Region.{Region}
 use Rattle.fx_record.specs.Txns.{txns_of}
 use Rattle.fx_log.specs.Chosen.{start_of}
 use Rattle.fx_image.specs.Standing.{StandsFor, Transactions, items_after, lists_of}
-use Rattle.fx_image.specs.Journal.{IsReading, Journal, new_journal}
+use Rattle.fx_image.specs.Journal.{HasJournal, IsReading, Journal, new_journal}
+use Rattle.fx_log.specs.Raising.{ChoosesSince}
 use Rattle.fx_store.specs.Inside.{HasBuffers}
+use Rattle.fx_store.specs.Mounted.{State}
 use Rattle.fx_store.specs.Session.{IsSessionOf, KnowsNodes}
 use Rattle.fx_store.specs.declared.opening.Contents.{Contents}
 use Rattle.fx_store.specs.declared.opening.Found.{Found}
+use Rattle.fx_store.specs.declared.opening.NotBegun.{NotBegun}
 use Rattle.fx_store.specs.declared.session.Session.{Session}
 
 -- This was read of a disk of so many blocks with that superblock: the stream's blocks, up to the next place;
 -- their transactions; the tree that these make, with the node of each path; and the first numbers that
 -- nothing has used.
-pub record IsRead (size : ℕ) (told : Option DiskRecord) (f : Fields) (c : Contents) : Type 0 where
+pub record IsRead (seen : DiskSeen) (f : Fields) (c : Contents) : Type 0 where
   pub blocks : List StreamBlock
   pub closed_is : length blocks ≡ c.closed
   pub few : length blocks ≤ f.ring
-  pub reading : IsReading size c.base f blocks c.next (txns_of c.txns)
+  pub reading : IsReading seen.size c.base f blocks c.next (txns_of c.txns)
   pub stands : StandsFor (items_after (txns_of c.txns)) c.tree
-  pub stream : IfSome told (λ r. IsStream r.contents f.ring f.generation (start_of f) blocks c.next)
+  pub stream : IfSome seen.told
+      (λ r. IsStream r.contents f.ring f.generation (start_of f) blocks c.next)
   pub knows : KnowsNodes (items_after (txns_of c.txns)) c.nodes
   pub next_id : c.next_id ≡ next_id_after f.next_id (lists_of (txns_of c.txns))
   pub next_store : c.next_store ≡ next_store_after f.next_store (lists_of (txns_of c.txns))
 
--- A store can begin on a disk of so many blocks: this is its chosen superblock, and that was read of it.
-pub record CanBegin (size : ℕ) (told : Option DiskRecord) (found : Found) (c : Contents) : Type 0 where
-  pub chosen : IfSome told (λ r. IsChosen r.contents found.chosen (fields_of found.sup))
-  pub read : IsRead size told (fields_of found.sup) c
+-- This superblock of the disk is chosen, where it tells.
+abbrev pub TellsChosen : DiskSeen → Which → Fields → Type 0
+TellsChosen seen chosen f = IfSome seen.told (λ r. IsChosen r.contents chosen f)
+
+-- A store can begin on the disk: this is its chosen superblock, and that was read of it.
+pub record CanBegin (seen : DiskSeen) (found : Found) (c : Contents) : Type 0 where
+  pub chosen : TellsChosen seen found.chosen (fields_of found.sup)
+  pub read : IsRead seen (fields_of found.sup) c
+
+-- A store that began on the disk with what was read of it: nothing was committed yet, and no block waits.
+pub record HasBegun {Device : Type 0} (before : DiskSeen) (found : Found) (c : Contents)
+    (store : State Device) : Type 0 where
+  pub from : store.from ≡ before.calls
+  pub base : store.base ≡ c.base
+  pub txns : store.txns ≡ txns_of c.txns
+  pub history : store.history ≡ []
+  pub ring : store.ring ≡ found.sup.ring
+  pub live : store.live ≡ c.closed + 1
+  pub waiting : store.waiting ≡ 0
+
+-- The disk that a beginning leaves, and whether it is begun.
+abbrev pub disk_left : {Device : Type 0} → Result (State Device) (NotBegun Device) → Device
+disk_left (Ok store) = store.disk
+disk_left (Err un) = un.disk
 
 -- ---- the journal of a store that begins
 
@@ -75,6 +101,13 @@ pub record FitsTogether (size : ℕ) (f : Fields) (read : Read) : Type 0 where
 abbrev pub IsOn : Fields → Read → DiskRecord → Type 0
 IsOn f read r = IsStream r.contents f.ring f.generation (start_of f) read.blocks read.place
 
+-- What the disk has while its superblock is raised to the next generation, and after: the one or the other is
+-- chosen, and the journal goes on from what was read.
+pub record Raises (before after : DiskSeen) (f : Fields) : Type 0 where
+  pub since : IfSome after.told (ChoosesSince before.calls)
+  pub journal : (read : Read) → FitsTogether before.size f read → IfSome before.told (IsOn f read)
+      → IfSome after.told (HasJournal (journal_of before.size before.calls f read))
+
 -- the ring that goes on from it
 abbrev pub ring_of : Fields → Read → RingState
 ring_of f read = record {
@@ -90,8 +123,8 @@ ring_of f read = record {
 }
 
 -- All memory that a store begins with is there.
-pub record IsPrepared (size : ℕ) (f : Fields) (read : Read) (s : Session) (ring : RingState) (pool : Region)
-    : Type 0 where
+pub record IsPrepared (size : ℕ) (f : Fields) (read : Read)
+    (s : Session) (ring : RingState) (pool : Region) : Type 0 where
   pub session : (from : ℕ) → IsSessionOf (journal_of size from f read) s
   pub ring_is : ring ≡ ring_of f read
   pub buffers : HasBuffers ring pool

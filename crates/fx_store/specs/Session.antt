@@ -16,7 +16,7 @@ use Rattle.fx_record.specs.Txns.{txns_of}
 use Rattle.fx_history.specs.History.{tree_at}
 use Rattle.fx_image.specs.Standing.{StandsFor, lists_of}
 use Rattle.fx_image.specs.Replay.{AreItemsOf}
-use Rattle.fx_image.specs.Journal.{Journal}
+use Rattle.fx_image.specs.Journal.{Journal, journal_id, journal_lists, journal_store}
 use Rattle.fx_store.specs.Nodes.{NodeTable}
 use Rattle.fx_store.specs.declared.commit.Numbers.{Numbers}
 use Rattle.fx_store.specs.declared.commit.Commit.{Commit}
@@ -24,7 +24,8 @@ use Rattle.fx_store.specs.declared.session.Session.{Session}
 
 -- The table has the node of each path that leads to one.
 pub record KnowsNodes (items : ItemMap) (nodes : NodeTable) : Type 0 where
-  pub knows : (path : List (List ℕ)) (node : NodeId) → node_at items path ≡ Some node → get nodes path ≡ Some node
+  pub knows : (path : List (List ℕ)) (node : NodeId) → node_at items path ≡ Some node
+      → get nodes path ≡ Some node
 
 -- The items stand for the tree, the table has their nodes, and the next numbers are above all that they use.
 pub record Knows (items : ItemMap) (tree : Tree) (nodes : NodeTable) (next : Numbers) : Type 0 where
@@ -45,21 +46,23 @@ new_step kinds.File path = Create path
 
 -- These are the items of the step, with these next numbers before it and after it, and the table has the
 -- nodes that there are after it.
-pub record IsPlan (items : ItemMap) (nodes : NodeTable) (before : Numbers) (step : Step) (list : List PlainItem) (after_it : Numbers) : Type 0 where
+pub record IsPlan (items : ItemMap) (nodes : NodeTable) (before : Numbers) (step : Step)
+    (list : List PlainItem) (after_it : Numbers) : Type 0 where
   pub are : AreItemsOf items before.id before.store step list
   pub knows : KnowsNodes (after items list) nodes
   pub id : after_it.id ≡ next_id before.id list
   pub store : after_it.store ≡ next_store before.store list
 
 -- The commit has the record of such items, under its number.
-pub record IsReady (items : ItemMap) (nodes : NodeTable) (before : Numbers) (step : Step) (commit : Commit) : Type 0 where
+pub record IsReady (items : ItemMap) (nodes : NodeTable) (before : Numbers) (step : Step)
+    (commit : Commit) : Type 0 where
   pub list : List PlainItem
   pub plan : IsPlan items nodes before step list commit.next
   pub bytes : commit.record.items ≡ record_bytes (TransactionRecord commit.entry.number list)
 
 -- what stands after the journal's commits
 abbrev pub items_now : Journal → ItemMap
-items_now j = after_all (lists_of j.opening.txns ++ j.commits.records)
+items_now j = after_all (journal_lists j)
 
 -- The session is that of the journal's commits.
 pub record IsSessionOf (j : Journal) (s : Session) : Type 0 where
@@ -67,7 +70,8 @@ pub record IsSessionOf (j : Journal) (s : Session) : Type 0 where
   pub txns : txns_of s.txns ≡ j.opening.txns
   pub history : s.history.items ≡ j.commits.history
   pub settled : s.settled ≡ j.commits.marks
-  pub tree : s.tree ≡ tree_at j.opening.tree j.commits.history (j.opening.base + length j.commits.history)
+  pub tree : s.tree
+      ≡ tree_at j.opening.tree j.commits.history (j.opening.base + length j.commits.history)
   pub knows : KnowsNodes (items_now j) s.nodes
-  pub id : s.next.id ≡ next_id_after j.log.head.super.next_id (lists_of j.opening.txns ++ j.commits.records)
-  pub store : s.next.store ≡ next_store_after j.log.head.super.next_store (lists_of j.opening.txns ++ j.commits.records)
+  pub id : s.next.id ≡ journal_id j
+  pub store : s.next.store ≡ journal_store j

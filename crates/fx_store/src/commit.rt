@@ -66,9 +66,11 @@ fn is_root(node: LockKey) -> bool
 }
 
 impl Numbers {
-    /// The node that a new child of this directory is: in the root a store of its own, elsewhere the next id.
+    /// The node that a new child of this directory is: in the root a store of its own, elsewhere the
+    /// next id.
     pub(crate) fn child_of(self, parent: LockKey) -> LockKey
-        ensures { result ≡ (if is_root parent then record { store = self.store; id = 0 } else record { store = parent.store; id = self.id }) }
+        ensures { result ≡ (if is_root parent then record { store = self.store; id = 0 }
+            else record { store = parent.store; id = self.id }) }
     {
         if is_root(parent) {
             return LockKey {
@@ -163,7 +165,8 @@ pub(crate) fn same_file(alloc: Global, node: LockKey) -> Result<Items, AllocErro
 /// The bytes of the record of a commit.
 pub(crate) fn record_of(alloc: Global, number: u64, items: Items) -> Result<Vec<u8>, AllocError>
     requires { IsRecord (TransactionRecord number (items_of items)) }
-    ensures { IfOk result (λ bytes. bytes.items ≡ record_bytes (TransactionRecord number (items_of items))) }
+    ensures { IfOk result (λ bytes.
+        bytes.items ≡ record_bytes (TransactionRecord number (items_of items))) }
 {
     let mut bytes = Vec::with_capacity(alloc, MAX_RECORD)?;
     encode_record(&Record::Txn { number, items }, &mut bytes)?;

@@ -1,7 +1,6 @@
 //! A mounted disk: the tree in memory, the commits that led to it, and the journal that keeps them.
 #![tactic(auto)]
 
-mod block;
 mod commit;
 mod nodes;
 mod opening;
@@ -10,7 +9,6 @@ mod raise;
 mod session;
 mod store;
 
-pub use block::zero_block;
 pub use nodes::NodeMap;
 pub use opening::{BeginFault, Contents, Found, NotBegun, start_of};
 pub use store::{Mark, Store, StoreEnd};

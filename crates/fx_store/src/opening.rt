@@ -1,20 +1,12 @@
 //! What a store begins with, and its beginning.
-ghost use Rattle.std.specs.Prelude.{◌≡◌, ◌≢◌, ℕ, ◌+◌, ◌^◌, ◌≤◌, [], List, IfOk, IfErr};
-ghost use Rattle.std.specs.Option.{IfSome};
-ghost use Rattle.fx_base.specs.Causes.{Rose};
+ghost use Rattle.std.specs.Prelude.{◌≡◌, ◌+◌, ◌^◌, ◌≤◌, [], true, false, IfOk, IfErr};
 ghost use Rattle.fx_super.specs.Super.{fields_of};
-ghost use Rattle.fx_disk.specs.Record.{DiskRecord};
-ghost use Rattle.fx_plain.specs.Tree.{Tree};
+ghost use Rattle.fx_disk.specs.Seen.{DiskSeen, GoesOn, HasCalled, HasFailedLast};
 ghost use Rattle.fx_pool.specs.Region.{IsSound};
-ghost use Rattle.fx_record.specs.Txns.{txns_of};
 ghost use Rattle.fx_journal.specs.Ring.{blocks_out};
 ghost use Rattle.fx_log.specs.Chosen.{start_of};
-ghost use Rattle.fx_disk.specs.Longer.{Extends};
-ghost use Rattle.fx_log.specs.Raising.{ChoosesSince};
-ghost use Rattle.fx_image.specs.Prefix.{KeepsPrefix};
-ghost use Rattle.fx_store.specs.Calls.{HasFailedLast};
-ghost use Rattle.fx_store.specs.Mounted.{KeepsImages};
-ghost use Rattle.fx_store.specs.Opening.{CanBegin, IsPrepared, IsRead, read_of};
+ghost use Rattle.fx_store.specs.Mounted.{LeavesImages, LeavesOpening};
+ghost use Rattle.fx_store.specs.Opening.{CanBegin, HasBegun, IsPrepared, IsRead, disk_left, read_of};
 
 use crate::nodes::NodeMap;
 use crate::raise::raise;
@@ -108,11 +100,9 @@ fn pool_for(alloc: Global, ring: u32) -> Result<Pool, AllocError>
 
 /// Takes the memory that a store begins with.
 fn prepare(alloc: Global, sup: &Super, contents: Contents) -> Result<Prepared, AllocError>
-    requires { (size : ℕ) × (told : Option DiskRecord) ×
-        IsRead size told (fields_of sup.now) contents }
-    ensures { (size : ℕ) (told : Option DiskRecord) →
-        (is : IsRead size told (fields_of sup.now) contents) →
-        IfOk result (λ p. IsPrepared size (fields_of sup.now) (read_of contents is.blocks)
+    requires { (seen : DiskSeen) × IsRead seen (fields_of sup.now) contents }
+    ensures { (seen : DiskSeen) → (is : IsRead seen (fields_of sup.now) contents) →
+        IfOk result (λ p. IsPrepared seen.size (fields_of sup.now) (read_of contents is.blocks)
             p.session p.ring p.pool) }
 {
     let pool = pool_for(alloc, sup.ring)?;
@@ -141,33 +131,22 @@ impl<D: Disk> Store<D> {
         found: &Found,
         contents: Contents,
     ) -> Result<Store<D>, NotBegun<D>>
-        requires { CanBegin (D.size disk) (D.told disk) found.now contents }
-        ensures from { IfOk result (λ store. store.from ≡ D.calls disk) }
-        ensures base { IfOk result (λ store. store.base ≡ contents.base) }
-        ensures txns { IfOk result (λ store. store.txns ≡ txns_of contents.txns) }
-        ensures fresh { IfOk result (λ store. store.history ≡ []) }
-        ensures ring { IfOk result (λ store. store.ring ≡ found.now.sup.ring) }
-        ensures live { IfOk result (λ store. store.live ≡ contents.closed + 1) }
-        ensures waiting { IfOk result (λ store. store.waiting ≡ 0) }
-        ensures two { IfOk result (λ store. D.calls store.disk ≡ D.calls disk + 2) }
-        ensures extends { IfOk result (λ store. Extends (D.told disk) (D.told store.disk)) }
-        ensures size { IfOk result (λ store. D.size store.disk ≡ D.size disk) }
-        ensures unfailed { IfOk result (λ store. D.faults store.disk ≡ D.faults disk) }
-        ensures images { IfOk result (λ store. IfSome (D.told store.disk)
-            (KeepsImages (D.size store.disk) store.from store.txns store.base [])) }
-        ensures memory { IfErr result (λ un. un.fault ≢ BeginFault.Device → un.disk ≡ disk) }
-        ensures failed { IfErr result (λ un. un.fault ≡ BeginFault.Device →
-            Rose (D.faults disk) (D.faults un.disk)) }
-        ensures last { IfErr result (λ un. un.fault ≡ BeginFault.Device →
-            HasFailedLast (D.last_made un.disk) (D.told un.disk)) }
-        ensures err_grows { IfErr result (λ un. D.calls disk ≤ D.calls un.disk) }
-        ensures err_calls { IfErr result (λ un. D.calls un.disk ≤ D.calls disk + 2) }
-        ensures err_extends { IfErr result (λ un. Extends (D.told disk) (D.told un.disk)) }
-        ensures err_size { IfErr result (λ un. D.size un.disk ≡ D.size disk) }
-        ensures err_faults { IfErr result (λ un. D.faults disk ≤ D.faults un.disk) }
-        ensures err_images { IfErr result (λ un. IfSome (D.told un.disk) (ChoosesSince (D.calls disk))) }
-        ensures err_prefix { IfErr result (λ un. (opening : Tree) (base : ℕ) →
-            IfSome (D.told un.disk) (KeepsPrefix (D.size un.disk) (D.calls disk) opening base [])) }
+        requires { CanBegin (D.seen disk) found.now contents }
+        ensures begun { IfOk result (HasBegun (D.seen disk) found.now contents) }
+        ensures two { IfOk result (λ store. ((D.seen store.disk).calls ≡ (D.seen disk).calls + 2)
+            × HasCalled (D.seen disk) (D.seen store.disk) true) }
+
+        // What a stop may leave, and that every image left now has the superblock of the next generation.
+        ensures images { IfOk result (λ store. LeavesImages (D.seen store.disk) store []) }
+
+        // Want of memory comes before the disk is touched. A fault is that of the call that was last
+        // asked for.
+        ensures memory { IfErr result (λ un. un.fault ≡ BeginFault.OutOfMemory → un.disk ≡ disk) }
+        ensures device { IfErr result (λ un. un.fault ≡ BeginFault.Device →
+            HasCalled (D.seen disk) (D.seen un.disk) false × HasFailedLast (D.seen un.disk)) }
+        ensures opening { IfErr result (λ un. LeavesOpening (D.seen disk).calls (D.seen un.disk)) }
+        ensures few { (D.seen (disk_left result)).calls ≤ (D.seen disk).calls + 2 }
+        ensures goes { GoesOn (D.seen disk) (D.seen (disk_left result)) }
     {
         let from = disk.calls();
         let mut disk = disk;

@@ -35,7 +35,8 @@ pub(crate) fn put(
     requires buffers { HasBuffers ring.old pool.old }
     requires some { 1 ≤ length commit.record.items }
     requires short { length commit.record.items ≤ 4064 }
-    ensures { Puts step.now commit session.old session.new ring.old ring.new pool.old pool.new result }
+    ensures { Puts step.now commit
+        session.old session.new ring.old ring.new pool.old pool.new result }
 {
     let bytes = commit.record.len() as u32;
     if let Err(full) = ring.reserve(pool, bytes) {

@@ -42,7 +42,8 @@ fn settle_each(entries: &mut [Entry], calls: u64)
 /// The same of the entries from this place on.
 fn settle_from(entries: &mut [Entry], from: usize, calls: u64)
     requires { from ≤ length entries.old }
-    ensures { entries.new ≡ take from entries.old ++ map (λ entry. settled_entry calls entry) (drop from entries.old) }
+    ensures { entries.new ≡
+        take from entries.old ++ map (λ entry. settled_entry calls entry) (drop from entries.old) }
 {
     let (_, rest) = entries.split_at_mut(from);
     settle_each(rest, calls);
@@ -118,12 +119,15 @@ impl Session {
         requires changing { is_reading step.now ≡ false }
         requires done { refused (do_step self.old.tree step.now).0 ≡ None }
         requires session { (items : ItemMap) × IsSession items self.old }
-        ensures same { self.new ≡ record self.old { nodes = self.new.nodes; history = self.new.history } }
+        ensures same { self.new ≡
+            record self.old { nodes = self.new.nodes; history = self.new.history } }
         ensures history { self.new.history.items ≡ self.old.history.items }
         ensures session { (items : ItemMap) → IsSession items self.old → IsSession items self.new }
         ensures room { OnOk result (vec_len self.new.history < vec_capacity self.new.history) }
-        ensures entry { IfOk result (λ commit. commit.entry ≡ entry_of (self.old.base + length self.old.history.items + 1) task.now step.now) }
-        ensures ready { (items : ItemMap) → IsSession items self.old → IfOk result (IsReady items self.new.nodes self.new.next step.now) }
+        ensures entry { IfOk result (λ commit. commit.entry ≡
+            entry_of (self.old.base + length self.old.history.items + 1) task.now step.now) }
+        ensures ready { (items : ItemMap) → IsSession items self.old →
+            IfOk result (IsReady items self.new.nodes self.new.next step.now) }
     {
         let number = self.number() + 1;
         let entry = entry_of(alloc, number, task, step)?;
@@ -145,7 +149,8 @@ impl Session {
         requires session { (items : ItemMap) × IsSession items self.old }
         ensures same { self.new ≡ record self.old { nodes = self.new.nodes } }
         ensures session { (items : ItemMap) → IsSession items self.old → IsSession items self.new }
-        ensures plan { (items : ItemMap) → IsSession items self.old → IfOk result (λ plan. IsPlan items self.new.nodes self.new.next step.now (items_of plan.items) plan.next) }
+        ensures plan { (items : ItemMap) → IsSession items self.old → IfOk result (λ plan.
+            IsPlan items self.new.nodes self.new.next step.now (items_of plan.items) plan.next) }
     {
         match step {
             Step::Mkdir { path } => self.plan_node(alloc, path, Kind::Dir),
@@ -157,9 +162,12 @@ impl Session {
 
     /// The items of a file that is written.
     fn plan_write(&self, alloc: Global, path: &Path) -> Result<Plan, AllocError>
-        requires written { (items : ItemMap) × (at : ℕ) × (text : List ℕ) × IsSession items self.now × (refused (do_step self.now.tree (Step.Write path.now at text)).0 ≡ None) }
-        ensures plan { (items : ItemMap) (at : ℕ) (text : List ℕ) → IsSession items self.now → refused (do_step self.now.tree (Step.Write path.now at text)).0 ≡ None →
-            IfOk result (λ plan. IsPlan items self.now.nodes self.now.next (Step.Write path.now at text) (items_of plan.items) plan.next) }
+        requires written { (items : ItemMap) × (at : ℕ) × (text : List ℕ) × IsSession items self.now
+            × (refused (do_step self.now.tree (Step.Write path.now at text)).0 ≡ None) }
+        ensures plan { (items : ItemMap) (at : ℕ) (text : List ℕ) → IsSession items self.now →
+            refused (do_step self.now.tree (Step.Write path.now at text)).0 ≡ None →
+            IfOk result (λ plan. IsPlan items self.now.nodes self.now.next
+                (Step.Write path.now at text) (items_of plan.items) plan.next) }
     {
         let Some(node) = self.nodes.get(path.as_slice()) else {
             unreachable!();
@@ -178,7 +186,9 @@ impl Session {
         requires session { (items : ItemMap) × IsSession items self.old }
         ensures same { self.new ≡ record self.old { nodes = self.new.nodes } }
         ensures session { (items : ItemMap) → IsSession items self.old → IsSession items self.new }
-        ensures plan { (items : ItemMap) → IsSession items self.old → IfOk result (λ plan. IsPlan items self.new.nodes self.new.next (new_step kind path.now) (items_of plan.items) plan.next) }
+        ensures plan { (items : ItemMap) → IsSession items self.old → IfOk result (λ plan.
+            IsPlan items self.new.nodes self.new.next
+                (new_step kind path.now) (items_of plan.items) plan.next) }
     {
         let Some((name, above)) = path.as_slice().split_last() else {
             unreachable!();
@@ -206,8 +216,13 @@ impl Session {
         requires done { refused (do_step self.old.tree step.now).0 ≡ None }
         requires room { vec_len self.old.history < vec_capacity self.old.history }
         ensures refused { OnErr result (self.new ≡ self.old) }
-        ensures done { OnOk result (self.new ≡ record self.old { tree = (do_step self.old.tree step.now).1; history = self.new.history; next = next }) }
-        ensures history { OnOk result (self.new.history.items ≡ self.old.history.items ++ entry ∷ []) }
+        ensures done { OnOk result (self.new ≡ record self.old {
+            tree = (do_step self.old.tree step.now).1;
+            history = self.new.history;
+            next = next;
+        }) }
+        ensures history { OnOk result
+            (self.new.history.items ≡ self.old.history.items ++ entry ∷ []) }
     {
         let Ok(_) = self.tree.step(alloc, step)? else {
             unreachable!();
@@ -223,7 +238,10 @@ impl Session {
     pub(crate) fn settle(&mut self, calls: u64)
         requires few { self.old.settled ≤ vec_len self.old.history }
         requires first { SettledFirst self.old.settled self.old.history.items }
-        ensures same { self.new ≡ record self.old { settled = length self.old.history.items; history = self.new.history } }
+        ensures same { self.new ≡ record self.old {
+            settled = length self.old.history.items;
+            history = self.new.history;
+        } }
         ensures history { self.new.history.items ≡ settle calls self.old.history.items }
     {
         settle_from(self.history.as_mut_slice(), self.settled, calls);

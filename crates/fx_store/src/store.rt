@@ -1,18 +1,15 @@
 //! A mounted disk.
-ghost use Rattle.std.specs.Prelude.{◌≡◌, ◌≢◌, ℕ, ◌+◌, ◌<◌, ◌≤◌, All, List, true, false, None, Ok, length, IfOk, OnOk, OnErr};
-ghost use Rattle.std.specs.Option.{IfSome};
-ghost use Rattle.fx_base.specs.Causes.{Rose};
+ghost use Rattle.std.specs.Prelude.{◌≡◌, ◌≢◌, ℕ, ◌+◌, ◌<◌, ◌≤◌, All, true, false, None, Ok, length, is_ok, IfOk, OnOk, OnErr};
 ghost use Rattle.fx_plain.specs.Tree.{Tree};
 ghost use Rattle.fx_plain.specs.Table.{is_reading};
-ghost use Rattle.fx_item.specs.declared.full.Full.{Full};
-ghost use Rattle.fx_script.specs.declared.script.Task.{Task};
 ghost use Rattle.fx_script.specs.Print.{StepKeepsRules};
+ghost use Rattle.fx_script.specs.Sent.{TaskKeepsRules};
+ghost use Rattle.fx_script.specs.declared.script.Task.{Task};
 ghost use Rattle.fx_history.specs.History.{settle};
 ghost use Rattle.fx_history.specs.Transcript.{EndsNext};
-ghost use Rattle.fx_disk.specs.Longer.{Extends};
-ghost use Rattle.fx_store.specs.Mounted.{KeepsImages, KeepsWhole, Opens};
-ghost use Rattle.fx_store.specs.Line.{Changes, Looks, Syncs};
-ghost use Rattle.fx_store.specs.Calls.{IsFlushedBy, HasFailedLast, flushes};
+ghost use Rattle.fx_disk.specs.Seen.{GoesOn, HasCalled, HasFailedLast};
+ghost use Rattle.fx_store.specs.Line.{Changes, Looks, flushes};
+ghost use Rattle.fx_store.specs.Mounted.{EndsSync, FlushedAll, LeavesDisk, LeavesImages, LeavesWhole, Opens, SameMount, TakesRing, TellsFaults, WritesEach, WroteAll};
 
 use crate::put::{PutEnd, put};
 use crate::session::Session;
@@ -21,7 +18,7 @@ use fx_history::{EndKind, History, Outcome};
 use fx_journal::{Ring, Wrote};
 use fx_plain::Step;
 use fx_pool::Pool;
-use fx_script::{Line, SentLine, Task};
+use fx_script::{Line, Task};
 use std::alloc::Global;
 use std::marker::Model;
 
@@ -43,9 +40,18 @@ impl<D: Disk> Model for Store<D> {
 
     ghost Value = { State D };
 
-    ghost view = { λ s. record { disk = s.disk; from = s.from; base = s.session.base; txns = txns_of s.session.txns; history = s.session.history.items; ring = s.ring.size; live = live s.ring; waiting = s.ring.queued + begun s.ring.text } };
+    ghost view = { λ s. record {
+        disk = s.disk;
+        from = s.from;
+        base = s.session.base;
+        txns = txns_of s.session.txns;
+        history = s.session.history.items;
+        ring = s.ring.size;
+        live = live s.ring;
+        waiting = s.ring.queued + begun s.ring.text;
+    } };
 
-    ghost invariant = { λ s. IsStore (D.size s.disk) (D.calls s.disk) (D.told s.disk) s.from s.session s.ring s.pool };
+    ghost invariant = { λ s. IsStore (D.seen s.disk) s.from s.session s.ring s.pool };
 }
 
 /// A sync: a stop after this many calls keeps the commits up to this number.
@@ -68,69 +74,31 @@ pub struct StoreEnd<D> {
     pub history: History,
 }
 
-/// Whether the step looks at the tree and never changes it.
-fn is_reading(step: &Step) -> bool
-    ensures { result ≡ is_reading step.now }
-{
-    match step {
-        Step::Mkdir { .. } | Step::Create { .. } | Step::Write { .. } => false,
-        Step::Read { .. } | Step::List { .. } | Step::Stat { .. } => true,
-    }
-}
-
 impl<D: Disk> Store<D> {
     /// Does a line. A line that looks leaves the disk alone, and so does one that changes the tree: its
-    /// record waits in the journal's queue in memory. `sync` writes and flushes, as [`Store::sync`]. The
-    /// line's task is built for this call alone; where there is no memory for it nothing is done.
-    pub fn exec(&mut self, alloc: Global, line: &SentLine<'_>) -> Outcome
+    /// record waits in the journal's queue in memory. `sync` writes and flushes, as [`Store::sync`]. A
+    /// task that was made by hand can be done where [`Task::keeps_rules`] holds.
+    pub fn exec(&mut self, alloc: Global, task: &Task) -> Outcome
+        requires { TaskKeepsRules task.now }
         ensures ends { (opening : Tree) → Opens self.old.txns opening →
-            EndsNext opening self.old.base self.old.history self.new.history line.now result.at result.kind }
-
-        // A line that changes the tree and is not refused is full exactly where the ring has no place for
-        // one more block, unless memory runs out.
-        ensures full { (full : Full) → result.kind ≡ EndKind.Full full →
-            (full ≡ record { live = self.old.live; promised = 0; want = 1 }) × (self.old.ring < self.old.live + 2) }
-        ensures room { result.kind ≡ EndKind.Committed → self.old.live + 2 ≤ self.old.ring }
-        ensures live { self.new.live + length self.old.history ≤ self.old.live + length self.new.history }
-
-        // Only a commit takes room in the ring, which no line gives back, and what it takes waits until the
-        // next sync.
-        ensures takes { self.old.live ≤ self.new.live }
-        ensures stays { result.kind ≢ EndKind.Committed → self.new.live ≡ self.old.live }
-        ensures waits { line.now.line ≢ Line.Sync → self.new.waiting + self.old.live ≡ self.old.waiting + self.new.live }
-
-        // The line `sync` alone uses the disk, and ends as synced or as a fault of the disk.
-        ensures still { line.now.line ≢ Line.Sync → self.new.disk ≡ self.old.disk }
-        ensures syncs { line.now.line ≡ Line.Sync → Syncs result.kind }
-        ensures synced { (calls : ℕ) → result.kind ≡ EndKind.Synced calls → IsFlushedBy calls (D.calls self.new.disk) (D.told self.new.disk) }
-        ensures sync_calls { (calls : ℕ) → result.kind ≡ EndKind.Synced calls → D.calls self.new.disk ≡ D.calls self.old.disk + self.old.waiting + 1 }
-        ensures sync_waiting { (calls : ℕ) → result.kind ≡ EndKind.Synced calls → self.new.waiting ≡ 0 }
-        ensures device { (count : ℕ) → result.kind ≡ EndKind.DeviceFault count → (count ≡ D.faults self.new.disk) × Rose (D.faults self.old.disk) (D.faults self.new.disk) }
-
-        // The count of calls never falls. A block that becomes live waits until it is written by one call,
-        // and a `sync` makes at most one call besides.
-        ensures grows { D.calls self.old.disk ≤ D.calls self.new.disk }
-        ensures kept { D.calls self.old.disk + self.old.waiting + self.new.live ≤ D.calls self.new.disk + self.new.waiting + self.old.live }
-        ensures most { D.calls self.new.disk + self.new.waiting + self.old.live ≤ D.calls self.old.disk + self.old.waiting + self.new.live + flushes line.now.line }
-
-        ensures base { self.new.base ≡ self.old.base }
-        ensures txns { self.new.txns ≡ self.old.txns }
-        ensures from { self.new.from ≡ self.old.from }
-        ensures ring { self.new.ring ≡ self.old.ring }
-        ensures extends { Extends (D.told self.old.disk) (D.told self.new.disk) }
-        ensures size { D.size self.new.disk ≡ D.size self.old.disk }
-        ensures faults { D.faults self.old.disk ≤ D.faults self.new.disk }
-        ensures unfailed { ((count : ℕ) → result.kind ≢ EndKind.DeviceFault count) → D.faults self.new.disk ≡ D.faults self.old.disk }
+            EndsNext opening self.old.base self.old.history self.new.history
+                task.now result.at result.kind }
+        ensures takes { TakesRing self.old self.new result.kind }
+        ensures still { task.now.line ≢ Line.Sync → LeavesDisk self.old self.new }
+        ensures syncs { task.now.line ≡ Line.Sync →
+            EndsSync (D.seen self.old.disk) (D.seen self.new.disk) self.old self.new result.kind }
+        ensures faults { TellsFaults (D.seen self.old.disk) (D.seen self.new.disk) result.kind }
+        ensures each { WritesEach (flushes task.now.line)
+            (D.seen self.old.disk) (D.seen self.new.disk) self.old self.new }
+        ensures mount { SameMount self.old self.new }
+        ensures goes { GoesOn (D.seen self.old.disk) (D.seen self.new.disk) }
     {
-        let Ok(task) = line.task(alloc) else {
-            return Outcome::new(self.number(), EndKind::OutOfMemory);
-        };
         match &task.line {
             Line::Single(step) => {
-                if is_reading(step) {
+                if step.is_reading() {
                     return self.look(alloc, step);
                 }
-                return self.change(alloc, &task, step);
+                return self.change(alloc, task, step);
             }
             Line::Sync => return self.sync_line(),
         }
@@ -139,8 +107,10 @@ impl<D: Disk> Store<D> {
     /// Does a line whose one step looks at the tree.
     fn look(&mut self, alloc: Global, step: &Step) -> Outcome
         requires reading { is_reading step.now ≡ true }
-        ensures ends { (opening : Tree) (task : Task) → Opens self.old.txns opening → task.line ≡ Line.Single step.now →
-            EndsNext opening self.old.base self.old.history self.new.history task result.at result.kind }
+        ensures ends { (opening : Tree) (task : Task) → Opens self.old.txns opening →
+            task.line ≡ Line.Single step.now →
+            EndsNext opening self.old.base self.old.history self.new.history
+                task result.at result.kind }
         ensures looks { Looks result.kind }
         ensures same { self.new ≡ self.old }
     {
@@ -155,20 +125,12 @@ impl<D: Disk> Store<D> {
         requires changing { is_reading step.now ≡ false }
         requires line { task.now.line ≡ Line.Single step.now }
         ensures ends { (opening : Tree) → Opens self.old.txns opening →
-            EndsNext opening self.old.base self.old.history self.new.history task.now result.at result.kind }
-        ensures full { (full : Full) → result.kind ≡ EndKind.Full full →
-            (full ≡ record { live = self.old.live; promised = 0; want = 1 }) × (self.old.ring < self.old.live + 2) }
-        ensures room { result.kind ≡ EndKind.Committed → self.old.live + 2 ≤ self.old.ring }
-        ensures live { self.new.live + length self.old.history ≤ self.old.live + length self.new.history }
-        ensures takes { self.old.live ≤ self.new.live }
-        ensures stays { result.kind ≢ EndKind.Committed → self.new.live ≡ self.old.live }
-        ensures waits { self.new.waiting + self.old.live ≡ self.old.waiting + self.new.live }
+            EndsNext opening self.old.base self.old.history self.new.history
+                task.now result.at result.kind }
         ensures changes { Changes result.kind }
-        ensures still { self.new.disk ≡ self.old.disk }
-        ensures base { self.new.base ≡ self.old.base }
-        ensures txns { self.new.txns ≡ self.old.txns }
-        ensures from { self.new.from ≡ self.old.from }
-        ensures ring { self.new.ring ≡ self.old.ring }
+        ensures takes { TakesRing self.old self.new result.kind }
+        ensures still { LeavesDisk self.old self.new }
+        ensures mount { SameMount self.old self.new }
     {
         let at = self.session.number();
         if let Some(refusal) = self.session.refusal(step) {
@@ -195,25 +157,16 @@ impl<D: Disk> Store<D> {
     /// Does the line `sync`.
     fn sync_line(&mut self) -> Outcome
         ensures ends { (opening : Tree) (task : Task) → task.line ≡ Line.Sync →
-            EndsNext opening self.old.base self.old.history self.new.history task result.at result.kind }
-        ensures syncs { Syncs result.kind }
-        ensures synced { (calls : ℕ) → result.kind ≡ EndKind.Synced calls → IsFlushedBy calls (D.calls self.new.disk) (D.told self.new.disk) }
-        ensures sync_calls { (calls : ℕ) → result.kind ≡ EndKind.Synced calls → D.calls self.new.disk ≡ D.calls self.old.disk + self.old.waiting + 1 }
-        ensures sync_waiting { (calls : ℕ) → result.kind ≡ EndKind.Synced calls → self.new.waiting ≡ 0 }
-        ensures device { (count : ℕ) → result.kind ≡ EndKind.DeviceFault count → (count ≡ D.faults self.new.disk) × Rose (D.faults self.old.disk) (D.faults self.new.disk) }
-        ensures grows { D.calls self.old.disk ≤ D.calls self.new.disk }
-        ensures kept { D.calls self.old.disk + self.old.waiting ≤ D.calls self.new.disk + self.new.waiting }
-        ensures most { D.calls self.new.disk + self.new.waiting ≤ D.calls self.old.disk + self.old.waiting + 1 }
-        ensures history { length self.new.history ≡ length self.old.history }
-        ensures base { self.new.base ≡ self.old.base }
-        ensures txns { self.new.txns ≡ self.old.txns }
-        ensures from { self.new.from ≡ self.old.from }
-        ensures ring { self.new.ring ≡ self.old.ring }
-        ensures live { self.new.live ≡ self.old.live }
-        ensures extends { Extends (D.told self.old.disk) (D.told self.new.disk) }
-        ensures size { D.size self.new.disk ≡ D.size self.old.disk }
-        ensures faults { D.faults self.old.disk ≤ D.faults self.new.disk }
-        ensures unfailed { ((count : ℕ) → result.kind ≢ EndKind.DeviceFault count) → D.faults self.new.disk ≡ D.faults self.old.disk }
+            EndsNext opening self.old.base self.old.history self.new.history
+                task result.at result.kind }
+        ensures takes { TakesRing self.old self.new result.kind }
+        ensures syncs {
+            EndsSync (D.seen self.old.disk) (D.seen self.new.disk) self.old self.new result.kind }
+        ensures faults { TellsFaults (D.seen self.old.disk) (D.seen self.new.disk) result.kind }
+        ensures each {
+            WritesEach 1 (D.seen self.old.disk) (D.seen self.new.disk) self.old self.new }
+        ensures mount { SameMount self.old self.new }
+        ensures goes { GoesOn (D.seen self.old.disk) (D.seen self.new.disk) }
     {
         let at = self.number();
         match self.sync() {
@@ -225,7 +178,8 @@ impl<D: Disk> Store<D> {
     /// The number of the last commit.
     fn number(&self) -> u64
         ensures number { result ≡ self.now.base + length self.now.history }
-        ensures settled { All (λ entry. entry.settled ≤ D.calls self.now.disk) self.now.history }
+        ensures settled { All (λ entry. entry.settled ≤ (D.seen self.now.disk).calls)
+            self.now.history }
     {
         self.session.number()
     }
@@ -234,37 +188,29 @@ impl<D: Disk> Store<D> {
     /// write a block that waits, and one flush, also where none waits. After a fault what was not written
     /// still waits, and nothing is settled.
     pub fn sync(&mut self) -> Result<Mark, DiskFailed>
-        ensures mark { IfOk result (λ mark. (mark.number ≡ self.old.base + length self.old.history) × (mark.calls ≡ D.calls self.new.disk)) }
-        ensures settled { OnOk result (self.new.history ≡ settle (D.calls self.new.disk) self.old.history) }
-        ensures unsettled { OnErr result (self.new.history ≡ self.old.history) }
-
-        // The last call is the flush, which was good.
-        ensures flushed { OnOk result (IsFlushedBy (D.calls self.new.disk) (D.calls self.new.disk) (D.told self.new.disk)) }
+        ensures mark { IfOk result (λ mark. mark ≡ record {
+            number = self.old.base + length self.old.history;
+            calls = (D.seen self.new.disk).calls;
+        }) }
+        ensures settled { OnOk result
+            (self.new.history ≡ settle (D.seen self.new.disk).calls self.old.history) }
 
         // Every image that a stop may leave now has all of the history.
-        ensures whole { OnOk result (IfSome (D.told self.new.disk) (KeepsWhole (D.size self.new.disk) self.old.from self.old.txns self.old.base self.new.history)) }
+        ensures whole { OnOk result (LeavesWhole (D.seen self.new.disk) self.new self.new.history) }
 
-        // One write a block that waits, and one flush. After a fault each block that waited was written by
-        // one call or waits still, and at most one call more was made.
-        ensures calls { OnOk result (D.calls self.new.disk ≡ D.calls self.old.disk + self.old.waiting + 1) }
-        ensures waiting { OnOk result (self.new.waiting ≡ 0) }
-        ensures grows { D.calls self.old.disk ≤ D.calls self.new.disk }
-        ensures kept { D.calls self.old.disk + self.old.waiting ≤ D.calls self.new.disk + self.new.waiting }
-        ensures most { D.calls self.new.disk + self.new.waiting ≤ D.calls self.old.disk + self.old.waiting + 1 }
+        // One write a block that waits, and one flush, which is the last call.
+        ensures flushed { OnOk result
+            (FlushedAll (D.seen self.old.disk) (D.seen self.new.disk) self.old self.new) }
 
-        // A fault is that of the call which was last asked for: it was not made, or it failed.
-        ensures failed { OnErr result (Rose (D.faults self.old.disk) (D.faults self.new.disk)) }
-        ensures last { OnErr result (HasFailedLast (D.last_made self.new.disk) (D.told self.new.disk)) }
+        // A fault is that of the call which was last asked for: it was not made, or it failed. Each block
+        // that waited was written by one call or waits still, and at most one call more was made.
+        ensures failed { OnErr result
+            ((self.new.history ≡ self.old.history) × HasFailedLast (D.seen self.new.disk)) }
+        ensures each {
+            WritesEach 1 (D.seen self.old.disk) (D.seen self.new.disk) self.old self.new }
 
-        ensures base { self.new.base ≡ self.old.base }
-        ensures txns { self.new.txns ≡ self.old.txns }
-        ensures from { self.new.from ≡ self.old.from }
-        ensures ring { self.new.ring ≡ self.old.ring }
-        ensures live { self.new.live ≡ self.old.live }
-        ensures extends { Extends (D.told self.old.disk) (D.told self.new.disk) }
-        ensures size { D.size self.new.disk ≡ D.size self.old.disk }
-        ensures faults { D.faults self.old.disk ≤ D.faults self.new.disk }
-        ensures unfailed { OnOk result (D.faults self.new.disk ≡ D.faults self.old.disk) }
+        ensures mount { SameMount self.old self.new × (self.new.live ≡ self.old.live) }
+        ensures called { HasCalled (D.seen self.old.disk) (D.seen self.new.disk) (is_ok result) }
     {
         if let Err(fault) = self.write_all() {
             return Err(fault);
@@ -281,23 +227,14 @@ impl<D: Disk> Store<D> {
 
     /// Writes all blocks that wait, in their order.
     fn write_all(&mut self) -> Result<(), DiskFailed>
-        ensures all { OnOk result (self.new.waiting ≡ 0) }
-        ensures calls { OnOk result (D.calls self.new.disk ≡ D.calls self.old.disk + self.old.waiting) }
-        ensures grows { D.calls self.old.disk ≤ D.calls self.new.disk }
-        ensures kept { D.calls self.old.disk + self.old.waiting ≤ D.calls self.new.disk + self.new.waiting }
-        ensures most { D.calls self.new.disk + self.new.waiting ≤ D.calls self.old.disk + self.old.waiting + 1 }
-        ensures failed { OnErr result (Rose (D.faults self.old.disk) (D.faults self.new.disk)) }
-        ensures last { OnErr result (HasFailedLast (D.last_made self.new.disk) (D.told self.new.disk)) }
+        ensures all { OnOk result
+            (WroteAll (D.seen self.old.disk) (D.seen self.new.disk) self.old self.new) }
+        ensures last { OnErr result (HasFailedLast (D.seen self.new.disk)) }
         ensures history { self.new.history ≡ self.old.history }
-        ensures base { self.new.base ≡ self.old.base }
-        ensures txns { self.new.txns ≡ self.old.txns }
-        ensures from { self.new.from ≡ self.old.from }
-        ensures ring { self.new.ring ≡ self.old.ring }
-        ensures live { self.new.live ≡ self.old.live }
-        ensures extends { Extends (D.told self.old.disk) (D.told self.new.disk) }
-        ensures size { D.size self.new.disk ≡ D.size self.old.disk }
-        ensures faults { D.faults self.old.disk ≤ D.faults self.new.disk }
-        ensures unfailed { OnOk result (D.faults self.new.disk ≡ D.faults self.old.disk) }
+        ensures each {
+            WritesEach 1 (D.seen self.old.disk) (D.seen self.new.disk) self.old self.new }
+        ensures mount { SameMount self.old self.new × (self.new.live ≡ self.old.live) }
+        ensures called { HasCalled (D.seen self.old.disk) (D.seen self.new.disk) (is_ok result) }
     {
         loop {
             match self.write_one() {
@@ -312,24 +249,16 @@ impl<D: Disk> Store<D> {
     /// holds bytes. Makes one write, or none where no block waits.
     fn write_one(&mut self) -> Result<bool, DiskFailed>
         ensures fewer { result ≡ Ok true → self.new.waiting + 1 ≡ self.old.waiting }
-        ensures one { result ≡ Ok true → D.calls self.new.disk ≡ D.calls self.old.disk + 1 }
-        ensures none { result ≡ Ok false → (self.old.waiting ≡ 0) × (self.new.waiting ≡ 0) }
-        ensures still { result ≡ Ok false → self.new.disk ≡ self.old.disk }
-        ensures grows { D.calls self.old.disk ≤ D.calls self.new.disk }
-        ensures most { D.calls self.new.disk ≤ D.calls self.old.disk + 1 }
+        ensures one { result ≡ Ok true →
+            (D.seen self.new.disk).calls ≡ (D.seen self.old.disk).calls + 1 }
+        ensures none { result ≡ Ok false → (self.old.waiting ≡ 0)
+            × (self.new.waiting ≡ 0) × (self.new.disk ≡ self.old.disk) }
         ensures waiting { OnErr result (self.new.waiting ≡ self.old.waiting) }
-        ensures failed { OnErr result (Rose (D.faults self.old.disk) (D.faults self.new.disk)) }
-        ensures last { OnErr result (HasFailedLast (D.last_made self.new.disk) (D.told self.new.disk)) }
+        ensures last { OnErr result (HasFailedLast (D.seen self.new.disk)) }
+        ensures most { (D.seen self.new.disk).calls ≤ (D.seen self.old.disk).calls + 1 }
         ensures history { self.new.history ≡ self.old.history }
-        ensures base { self.new.base ≡ self.old.base }
-        ensures txns { self.new.txns ≡ self.old.txns }
-        ensures from { self.new.from ≡ self.old.from }
-        ensures ring { self.new.ring ≡ self.old.ring }
-        ensures live { self.new.live ≡ self.old.live }
-        ensures extends { Extends (D.told self.old.disk) (D.told self.new.disk) }
-        ensures size { D.size self.new.disk ≡ D.size self.old.disk }
-        ensures faults { D.faults self.old.disk ≤ D.faults self.new.disk }
-        ensures unfailed { OnOk result (D.faults self.new.disk ≡ D.faults self.old.disk) }
+        ensures mount { SameMount self.old self.new × (self.new.live ≡ self.old.live) }
+        ensures called { HasCalled (D.seen self.old.disk) (D.seen self.new.disk) (is_ok result) }
     {
         let _next = self.ring.pad(&mut self.pool);
         match self
@@ -345,26 +274,18 @@ impl<D: Disk> Store<D> {
     /// Flushes, where no block waits: then each commit is settled. Answers the count of calls.
     fn settle(&mut self) -> Result<u64, DiskFailed>
         requires { self.old.waiting ≡ 0 }
-        ensures calls { IfOk result (λ calls. calls ≡ D.calls self.new.disk) }
-        ensures one { OnOk result (D.calls self.new.disk ≡ D.calls self.old.disk + 1) }
-        ensures grows { D.calls self.old.disk ≤ D.calls self.new.disk }
-        ensures most { D.calls self.new.disk ≤ D.calls self.old.disk + 1 }
-        ensures settled { OnOk result (self.new.history ≡ settle (D.calls self.new.disk) self.old.history) }
-        ensures unsettled { OnErr result (self.new.history ≡ self.old.history) }
-        ensures flushed { OnOk result (IsFlushedBy (D.calls self.new.disk) (D.calls self.new.disk) (D.told self.new.disk)) }
-        ensures whole { OnOk result (IfSome (D.told self.new.disk) (KeepsWhole (D.size self.new.disk) self.old.from self.old.txns self.old.base self.new.history)) }
-        ensures waiting { self.new.waiting ≡ 0 }
-        ensures failed { OnErr result (Rose (D.faults self.old.disk) (D.faults self.new.disk)) }
-        ensures last { OnErr result (HasFailedLast (D.last_made self.new.disk) (D.told self.new.disk)) }
-        ensures base { self.new.base ≡ self.old.base }
-        ensures txns { self.new.txns ≡ self.old.txns }
-        ensures from { self.new.from ≡ self.old.from }
-        ensures ring { self.new.ring ≡ self.old.ring }
-        ensures live { self.new.live ≡ self.old.live }
-        ensures extends { Extends (D.told self.old.disk) (D.told self.new.disk) }
-        ensures size { D.size self.new.disk ≡ D.size self.old.disk }
-        ensures faults { D.faults self.old.disk ≤ D.faults self.new.disk }
-        ensures unfailed { OnOk result (D.faults self.new.disk ≡ D.faults self.old.disk) }
+        ensures calls { IfOk result (λ calls. calls ≡ (D.seen self.new.disk).calls) }
+        ensures settled { OnOk result
+            (self.new.history ≡ settle (D.seen self.new.disk).calls self.old.history) }
+        ensures whole { OnOk result (LeavesWhole (D.seen self.new.disk) self.new self.new.history) }
+        ensures flushed { OnOk result
+            (FlushedAll (D.seen self.old.disk) (D.seen self.new.disk) self.old self.new) }
+        ensures failed { OnErr result
+            ((self.new.history ≡ self.old.history) × HasFailedLast (D.seen self.new.disk)) }
+        ensures each {
+            WritesEach 1 (D.seen self.old.disk) (D.seen self.new.disk) self.old self.new }
+        ensures mount { SameMount self.old self.new × (self.new.live ≡ self.old.live) }
+        ensures called { HasCalled (D.seen self.old.disk) (D.seen self.new.disk) (is_ok result) }
     {
         if let Err(fault) = self.disk.flush() {
             return Err(fault);
@@ -381,9 +302,9 @@ impl<D: Disk> Store<D> {
         ensures history { result.history ≡ self.history }
 
         // What a stop may leave, at each moment since the mount.
-        ensures images { IfSome (D.told result.disk) (KeepsImages (D.size result.disk) self.from self.txns self.base self.history) }
+        ensures images { LeavesImages (D.seen result.disk) self self.history }
         // No entry is settled by a later call than were made.
-        ensures settled { All (λ entry. entry.settled ≤ D.calls result.disk) self.history }
+        ensures settled { All (λ entry. entry.settled ≤ (D.seen result.disk).calls) self.history }
     {
         let Store {
             disk,

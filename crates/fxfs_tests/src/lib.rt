@@ -10,6 +10,8 @@ mod images;
 #[cfg(test)]
 mod moments;
 #[cfg(test)]
+mod mounts;
+#[cfg(test)]
 mod rows;
 #[cfg(test)]
 mod runs;

@@ -1,10 +1,9 @@
-use Rattle.std.proofs.Common.{◌≡◌, ℕ, ◌+◌, ◌≤◌, ◌<◌, ◌∙◌, refl, sym, subst, arith, List, Bool, true}
-use Rattle.std.specs.Prelude.{Option, is_ok}
-use Rattle.fx_disk.specs.Record.{DiskRecord}
+use Rattle.std.proofs.Common.{◌≡◌, ℕ, ◌+◌, ◌≤◌, ◌<◌, ◌∙◌, arith, List, true}
+use Rattle.std.specs.Prelude.{is_ok}
+use Rattle.fx_disk.specs.Longer.{BothTell}
+use Rattle.fx_disk.specs.Seen.{DiskSeen}
 use Rattle.fx_disk.specs.Steps.{Writes, Flushes}
-use Rattle.fx_disk.specs.Longer.{BothTell, Extends}
-use Rattle.fx_disk.proofs.Made.{good-made, flush-made, on_ok-from, extends-write, extends-flush}
-use Rattle.fx_disk.proofs.Longer.{extends_then}
+use Rattle.fx_disk.proofs.Made.{good-made, flush-made, on_ok-from}
 use Rattle.fx_mount.specs.Formatted.{IsLaidOut}
 use Rattle.fx_mount.specs.Laying.{IsLaid, KeepsFirst}
 use Rattle.fx_mount.proofs.Laying.{both-first, both-flush, both-out}
@@ -12,32 +11,19 @@ use Rattle.fx_mount.proofs.format.lay_out.Goals as goal
 
 pub returns-clause-laid : goal.returns-clause-laid
 returns-clause-laid g c =
-    let t0 : Option DiskRecord = g.D.Disk.told c.args.disk.now in
-    let t1 : Option DiskRecord = g.D.Disk.told c.clear.new.disk in
-    let t2 : Option DiskRecord = g.D.Disk.told c.flush.new.self in
-    let t3 : Option DiskRecord = g.D.Disk.told c.write.new.self in
-    let t4 : Option DiskRecord = g.D.Disk.told c.flush-2.new.self in
+    let s0 : DiskSeen = g.D.Disk.seen c.args.disk.now in
+    let s1 : DiskSeen = g.D.Disk.seen c.clear.new.disk in
+    let s2 : DiskSeen = g.D.Disk.seen c.flush.new.self in
+    let s3 : DiskSeen = g.D.Disk.seen c.write.new.self in
+    let s4 : DiskSeen = g.D.Disk.seen c.flush-2.new.self in
     let first : List ℕ = c.args.first.now in
     let end : ℕ = c.args.ring + 2 in
-    let cleared : BothTell (KeepsFirst end) t0 t2 =
-    both-flush end t0 t1 t2 (good-made (g.D.Disk.calls c.clear.new.disk) (g.D.Disk.calls c.flush.new.self) (g.D.Disk.last_made c.flush.new.self) (Flushes t1 t2 true) (t2 ≡ t1) c.in_ok-flush.ensures.told) c.in_ok-clear.ensures.laid in
-    let laid : BothTell (IsLaid end first) t0 t3 =
-    both-first (g.D.Disk.size c.flush.new.self) (g.D.Disk.calls c.flush.new.self) end t0 t2 t3 first (g.met.D.Disk.told_ok c.flush.new.self) (omega arith)
-    (omega (arith, c.flush.ensures.size, c.clear.ensures.size))
-    (good-made (g.D.Disk.calls c.flush.new.self) (g.D.Disk.calls c.write.new.self) (g.D.Disk.last_made c.write.new.self) (Writes t2 t3 0 first true) (t3 ≡ t2) c.in_ok-write.ensures.told) cleared in
-    on_ok-from c.flush-2.result (BothTell (IsLaidOut c.args.ring first) t0 t4)
-    (λ e. both-out c.args.ring first t0 t3 t4
-    (flush-made t3 t4 (g.D.Disk.calls c.write.new.self) (g.D.Disk.calls c.flush-2.new.self) (g.D.Disk.last_made c.flush-2.new.self) (is_ok c.flush-2.result) e c.flush-2.ensures.told) laid)
-
-pub returns-clause-extends : goal.returns-clause-extends
-returns-clause-extends g c =
-    let t0 : Option DiskRecord = g.D.Disk.told c.args.disk.now in
-    let t1 : Option DiskRecord = g.D.Disk.told c.clear.new.disk in
-    let t2 : Option DiskRecord = g.D.Disk.told c.flush.new.self in
-    let t3 : Option DiskRecord = g.D.Disk.told c.write.new.self in
-    let t4 : Option DiskRecord = g.D.Disk.told c.flush-2.new.self in
-    extends_then t0 t1 t4 c.clear.ensures.extends (extends_then t1 t2 t4
-    (extends-flush t1 t2 (is_ok c.flush.result) (g.D.Disk.calls c.clear.new.disk) (g.D.Disk.calls c.flush.new.self) (g.D.Disk.last_made c.flush.new.self) c.flush.ensures.told)
-    (extends_then t2 t3 t4
-    (extends-write t2 t3 0 c.args.first.now (is_ok c.write.result) (g.D.Disk.calls c.flush.new.self) (g.D.Disk.calls c.write.new.self) (g.D.Disk.last_made c.write.new.self) c.write.ensures.told)
-    (extends-flush t3 t4 (is_ok c.flush-2.result) (g.D.Disk.calls c.write.new.self) (g.D.Disk.calls c.flush-2.new.self) (g.D.Disk.last_made c.flush-2.new.self) c.flush-2.ensures.told)))
+    let cleared : BothTell (KeepsFirst end) s0.told s2.told =
+    both-flush end s0.told s1.told s2.told (good-made s1.calls s2.calls s2.last_made (Flushes s1.told s2.told true) (s2.told ≡ s1.told) c.in_ok-flush.ensures.flushed.made) c.in_ok-clear.ensures.laid in
+    let laid : BothTell (IsLaid end first) s0.told s3.told =
+    both-first s2.size s2.calls end s0.told s2.told s3.told first (g.met.D.Disk.told_ok c.flush.new.self) (omega arith)
+    (omega (arith, c.flush.ensures.flushed.size, c.clear.ensures.called.goes.size, c.requires.room))
+    (good-made s2.calls s3.calls s3.last_made (Writes s2.told s3.told 0 first true) (s3.told ≡ s2.told) c.in_ok-write.ensures.written.made) cleared in
+    on_ok-from c.flush-2.result (BothTell (IsLaidOut c.args.ring first) s0.told s4.told)
+    (λ e. both-out c.args.ring first s0.told s3.told s4.told
+    (flush-made s3.told s4.told s3.calls s4.calls s4.last_made (is_ok c.flush-2.result) e c.flush-2.ensures.flushed.made) laid)

@@ -16,20 +16,20 @@ use Rattle.fx_mount.proofs.Contents.{knows_after, refused_room, refused_tree, st
 use Rattle.fx_mount.proofs.reading.read_contents.Goals as goal
 use Rattle.fx_mount.proofs.reading.read_contents.Goals.{In-Ok, In_ok-begun, After-as_slice}
 
-are : (c : In-Ok) → IsTxns c.args.sup.now.base (stream_pieces c.args.blocks) (txns_of c.in-Ok.txns)
-are c = subst (λ (blocks : List (ℕ × List ℕ)). IsTxns c.args.sup.now.base blocks (txns_of c.in-Ok.txns)) (ap records.stream_pieces c.deref.ensures.value ∙ c.in_ok-pieces.ensures) c.in-Ok.ensures.answer
+are : (c : In-Ok) → IsTxns c.args.sup.now.base (stream_pieces c.args.stream.blocks) (txns_of c.in-Ok.txns)
+are c = subst (λ (blocks : List (ℕ × List ℕ)). IsTxns c.args.sup.now.base blocks (txns_of c.in-Ok.txns)) (ap records.pieces_of c.deref.ensures.value ∙ c.in_ok-pieces.ensures) c.in-Ok.ensures.answer
 
 pub gather-requires : goal.gather-requires
-gather-requires c = txns_hold c.args.sup.now.base (stream_pieces c.args.blocks) (txns_of c.in-Ok.txns) (are ((goal.at.gather-requires c).In-Ok))
+gather-requires c = txns_hold c.args.sup.now.base (stream_pieces c.args.stream.blocks) (txns_of c.in-Ok.txns) (are ((goal.at.gather-requires c).In-Ok))
 
 pub returns-in-Some-clause-refused : goal.returns-in-Some-clause-refused
 returns-in-Some-clause-refused c size image super stream =
     let wrong : IsLeastWrong (value_in c.in_ok-table.table.items) c.in-Some.node =
     subst (λ (found : Option LockKey). IfSome found (IsLeastWrong (value_in c.in_ok-table.table.items))) c.in-Some.is c.in_ok-node.ensures.wrong in
-    refused_tree (fields_of c.args.sup.now) c.args.blocks (txns_of c.in-Ok.txns) c.in_ok-table.table (are ((goal.at.returns-in-Some-clause-refused c).In-Ok)) c.in_ok-table.ensures size image super stream c.in-Some.node wrong
+    refused_tree (fields_of c.args.sup.now) c.args.stream.blocks (txns_of c.in-Ok.txns) c.in_ok-table.table (are ((goal.at.returns-in-Some-clause-refused c).In-Ok)) c.in_ok-table.ensures size image super stream c.in-Some.node wrong
 
-stands : (c : In_ok-begun) → IsTxns c.args.sup.now.base (stream_pieces c.args.blocks) (txns_of c.in-Ok.txns) → StandsFor (items_after (txns_of c.in-Ok.txns)) c.in_ok-begun.begun.tree
-stands c txns = stands_for (fields_of c.args.sup.now) c.args.blocks (txns_of c.in-Ok.txns) c.in_ok-table.table txns c.in_ok-table.ensures c.in_ok-begun.begun.tree
+stands : (c : In_ok-begun) → IsTxns c.args.sup.now.base (stream_pieces c.args.stream.blocks) (txns_of c.in-Ok.txns) → StandsFor (items_after (txns_of c.in-Ok.txns)) c.in_ok-begun.begun.tree
+stands c txns = stands_for (fields_of c.args.sup.now) c.args.stream.blocks (txns_of c.in-Ok.txns) c.in_ok-table.table txns c.in_ok-table.ensures c.in_ok-begun.begun.tree
     (subst (λ (found : Option LockKey). IfNone found (Stands (value_in c.in_ok-table.table.items))) c.in_default.is c.in_ok-node.ensures.stands) c.in_ok-begun.ensures.tree
 
 same_kept : (c : After-as_slice) → kept (fields_of c.args.sup.now) (txns_of c.in-Ok.txns) ≡ c.args.sup.now.base + length c.as_slice.result.now
@@ -39,7 +39,7 @@ same_kept c =
 
 pub returns-then-not-has_room-clause-refused : goal.returns-then-not-has_room-clause-refused
 returns-then-not-has_room-clause-refused c size image super stream =
-    refused_room (fields_of c.args.sup.now) c.args.blocks (txns_of c.in-Ok.txns) c.in_ok-table.table (are ((goal.at.returns-then-not-has_room-clause-refused c).In-Ok)) c.in_ok-table.ensures size image super stream
+    refused_room (fields_of c.args.sup.now) c.args.stream.blocks (txns_of c.in-Ok.txns) c.in_ok-table.table (are ((goal.at.returns-then-not-has_room-clause-refused c).In-Ok)) c.in_ok-table.ensures size image super stream
     c.in_ok-begun.begun.tree (stands ((goal.at.returns-then-not-has_room-clause-refused c).In_ok-begun) (are ((goal.at.returns-then-not-has_room-clause-refused c).In-Ok)))
     (λ room. cc (sym c.if-not-has_room.true ∙ (c.has_room.ensures (txns_of c.in-Ok.txns) (same_kept ((goal.at.returns-then-not-has_room-clause-refused c).After-as_slice)) c.in_ok-table.ensures).1 room))
 
@@ -52,4 +52,4 @@ pub returns-clause-stands : goal.returns-clause-stands
 returns-clause-stands c = stands ((goal.at.returns-clause-stands c).In_ok-begun) (are ((goal.at.returns-clause-stands c).In-Ok))
 
 pub returns-clause-nodes : goal.returns-clause-nodes
-returns-clause-nodes c = knows_after (fields_of c.args.sup.now) c.args.blocks (txns_of c.in-Ok.txns) c.in_ok-table.table (are ((goal.at.returns-clause-nodes c).In-Ok)) c.in_ok-table.ensures c.in_ok-begun.begun.nodes c.in_ok-begun.ensures.nodes
+returns-clause-nodes c = knows_after (fields_of c.args.sup.now) c.args.stream.blocks (txns_of c.in-Ok.txns) c.in_ok-table.table (are ((goal.at.returns-clause-nodes c).In-Ok)) c.in_ok-table.ensures c.in_ok-begun.begun.nodes c.in_ok-begun.ensures.nodes

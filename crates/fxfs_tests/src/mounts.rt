@@ -1,9 +1,9 @@
 //! Lines on a mounted disk, over mounts.
-use crate::{mkfs, mount};
 use fx_disk::Disk;
 use fx_disks::MemDisk;
 use fx_history::{Outcome, result_text};
 use fx_item::Bytes;
+use fx_mount::{mkfs, mount};
 use fx_script::{Tasks, read_script};
 use fx_store::Store;
 use std::alloc::Global;
@@ -56,7 +56,10 @@ fn unmounted<D: Disk>(store: Store<D>) -> D {
 /// How the first line of the script ends on the store.
 fn outcome_of<D: Disk>(alloc: Global, store: &mut Store<D>, tasks: &Tasks) -> Option<Outcome> {
     let line = tasks.lines().next()?;
-    Some(store.exec(alloc, &line))
+    let Ok(task) = line.task(alloc) else {
+        return None;
+    };
+    Some(store.exec(alloc, &task))
 }
 
 /// What is told of the line.

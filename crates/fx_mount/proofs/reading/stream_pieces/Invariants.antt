@@ -4,4 +4,4 @@ use Rattle.fx_image.specs.Standing.{stream_pieces}
 use Rattle.fx_mount.proofs.reading.stream_pieces.Given as goal
 
 abbrev pub invariant-loop-block : goal.invariant-loop-block
-invariant-loop-block l = records.stream_pieces l.pieces.items ≡ stream_pieces l.yielded
+invariant-loop-block l = records.pieces_of l.pieces.items ≡ stream_pieces l.yielded
