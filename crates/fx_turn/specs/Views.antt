@@ -10,15 +10,39 @@ use Rattle.fx_turn.specs.States.{PassState, HeldState}
 module _ {N P : Type 0} where
   -- a pass that does not hold the turn
   abbrev pub resting : List N → ℕ → ℕ → Parts P → View N P
-  resting seen own shares mine = record { seen = seen; own = own; shares = shares; mine = mine; holds = false; taken_log = []; taken_parts = empty; shorter = []; first = empty; second = empty }
+  resting seen own shares mine = record {
+    seen = seen;
+    own = own;
+    shares = shares;
+    mine = mine;
+    holds = false;
+    taken_log = [];
+    taken_parts = empty;
+    shorter = [];
+    first = empty;
+    second = empty;
+  }
 
   -- it holds the turn, and took the value with this log and these parts
   abbrev pub holding : View N P → List N → Parts P → View N P
-  holding v log parts = record { seen = v.seen; own = v.own; shares = v.shares; mine = v.mine; holds = true; taken_log = log; taken_parts = parts; shorter = []; first = empty; second = empty }
+  holding v log parts = record {
+    seen = v.seen;
+    own = v.own;
+    shares = v.shares;
+    mine = v.mine;
+    holds = true;
+    taken_log = log;
+    taken_parts = parts;
+    shorter = [];
+    first = empty;
+    second = empty;
+  }
 
   -- it gave the value back, with this log and these parts
   abbrev pub given : (N → Bool) → View N P → List N → Parts P → View N P
-  given counts v log parts = resting log (v.own + (count_by counts log - count_by counts v.taken_log)) v.shares (without_others v.taken_parts v.mine parts)
+  given counts v log parts =
+      resting log (v.own + (count_by counts log - count_by counts v.taken_log)) v.shares
+      (without_others v.taken_parts v.mine parts)
 
   -- what stays with a pass when a share and who's part are cut off, and what is cut off
   abbrev pub stays : ℕ → View N P → View N P
@@ -29,7 +53,18 @@ module _ {N P : Type 0} where
 
   -- two passes put together
   abbrev pub joined : View N P → View N P → View N P
-  joined v w = record { seen = longer v.seen w.seen; own = v.own + w.own; shares = v.shares + w.shares; mine = union v.mine w.mine; holds = false; taken_log = []; taken_parts = empty; shorter = shorter v.seen w.seen; first = v.mine; second = w.mine }
+  joined v w = record {
+    seen = longer v.seen w.seen;
+    own = v.own + w.own;
+    shares = v.shares + w.shares;
+    mine = union v.mine w.mine;
+    holds = false;
+    taken_log = [];
+    taken_parts = empty;
+    shorter = shorter v.seen w.seen;
+    first = v.mine;
+    second = w.mine;
+  }
 
   -- what is left of the second of them
   abbrev pub spent : View N P

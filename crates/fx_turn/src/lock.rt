@@ -47,9 +47,13 @@ impl<T: Growing> Model for Turn<T> {
 
     ghost coded = { turn_code };
 
-    ghost view = { λ t. record { id = t.table.shared.table_id; shares = t.table.shared.key.shares } };
+    ghost view = { λ t. record {
+      id = t.table.shared.table_id;
+      shares = t.table.shared.key.shares;
+    } };
 
-    ghost invariant = { λ t. (t.table.shared.table_id.words ≡ 1) × (t.table.shared.table_id.slots ≡ 1) };
+    ghost invariant = { λ t. (t.table.shared.table_id.words ≡ 1)
+        × (t.table.shared.table_id.slots ≡ 1) };
 }
 
 impl<T: Growing> Turn<T> {
@@ -106,7 +110,8 @@ impl<T: Growing> Turn<T> {
     pub fn take<R: Wait>(&self, rt: &R, pass: Pass<T::Note, T::Part>) -> Taken<T>
         requires { pass.turn ≡ self.now.id }
         ensures pass { result.held.pass ≡ pass }
-        ensures taken { (result.held.log ≡ T.log result.value) × (result.held.parts ≡ T.parts result.value) }
+        ensures taken { (result.held.log ≡ T.log result.value)
+            × (result.held.parts ≡ T.parts result.value) }
         ensures seen { IsPrefix pass.seen (T.log result.value) }
         ensures mine { IsWithin pass.mine (T.parts result.value) }
     {
@@ -158,11 +163,15 @@ impl<T: Growing> Turn<T> {
         requires turn { taken.held.pass.turn ≡ self.now.id }
         requires log { IsPrefix taken.held.log (T.log taken.value) }
         requires others { KeepsOthers taken.held.parts taken.held.pass.mine (T.parts taken.value) }
-        ensures turn { (result.turn ≡ taken.held.pass.turn) × (result.shares ≡ taken.held.pass.shares) }
+        ensures turn { (result.turn ≡ taken.held.pass.turn)
+            × (result.shares ≡ taken.held.pass.shares) }
         ensures seen { result.seen ≡ T.log taken.value }
-        ensures own { result.own ≡ taken.held.pass.own + (count_by T.counts (T.log taken.value) - count_by T.counts taken.held.log) }
-        ensures mine { result.mine ≡ without_others taken.held.parts taken.held.pass.mine (T.parts taken.value) }
-        ensures kept { (q : ℕ) → Has taken.held.pass.mine q → map.get result.mine q ≡ map.get (T.parts taken.value) q }
+        ensures own { result.own ≡ taken.held.pass.own
+            + (count_by T.counts (T.log taken.value) - count_by T.counts taken.held.log) }
+        ensures mine { result.mine ≡ without_others taken.held.parts taken.held.pass.mine
+            (T.parts taken.value) }
+        ensures kept { (q : ℕ) → Has taken.held.pass.mine q
+            → map.get result.mine q ≡ map.get (T.parts taken.value) q }
     {
         let Taken { value, held } = taken;
         let Held { mut seat } = held;
@@ -186,8 +195,10 @@ impl<T: Growing> Turn<T> {
         requires rests { seat.old.me.0.holds ≡ false }
         requires shares { 2 ≤ seat.old.me.0.shares }
         requires who { who ≡ W.who }
-        ensures new { (result.table_id ≡ seat.old.table_id) × (result.me ≡ (leaves who seat.old.me.0, [])) }
-        ensures rest { (seat.new.table_id ≡ seat.old.table_id) × (seat.new.me ≡ (stays who seat.old.me.0, seat.old.me.1)) }
+        ensures new { (result.table_id ≡ seat.old.table_id)
+            × (result.me ≡ (leaves who seat.old.me.0, [])) }
+        ensures rest { (seat.new.table_id ≡ seat.old.table_id)
+            × (seat.new.me ≡ (stays who seat.old.me.0, seat.old.me.1)) }
     {
         self.table.shared.split_seat::<Cut<W>>(seat)
     }
@@ -198,8 +209,20 @@ impl<T: Growing> Turn<T> {
         requires turn { pass.old.turn ≡ self.now.id }
         requires shares { 2 ≤ pass.old.shares }
         requires who { Has pass.old.mine who }
-        ensures new { result ≡ record { turn = pass.old.turn; seen = pass.old.seen; own = 0; shares = 1; mine = only who pass.old.mine } }
-        ensures rest { pass.new ≡ record { turn = pass.old.turn; seen = pass.old.seen; own = pass.old.own; shares = pass.old.shares - 1; mine = without who pass.old.mine } }
+        ensures new { result ≡ record {
+          turn = pass.old.turn;
+          seen = pass.old.seen;
+          own = 0;
+          shares = 1;
+          mine = only who pass.old.mine;
+        } }
+        ensures rest { pass.new ≡ record {
+          turn = pass.old.turn;
+          seen = pass.old.seen;
+          own = pass.old.own;
+          shares = pass.old.shares - 1;
+          mine = without who pass.old.mine;
+        } }
     {
         let badge = mem::replace(&mut pass.badge, Badge::blank());
         let mut seat = badge.into_seat::<Option<T>>();
@@ -218,7 +241,13 @@ impl<T: Growing> Turn<T> {
         b: Pass<T::Note, T::Part>,
     ) -> Pass<T::Note, T::Part>
         requires { (a.turn ≡ self.now.id) × (b.turn ≡ self.now.id) }
-        ensures both { result ≡ record { turn = a.turn; seen = longer a.seen b.seen; own = a.own + b.own; shares = a.shares + b.shares; mine = union a.mine b.mine } }
+        ensures both { result ≡ record {
+          turn = a.turn;
+          seen = longer a.seen b.seen;
+          own = a.own + b.own;
+          shares = a.shares + b.shares;
+          mine = union a.mine b.mine;
+        } }
         ensures seen { IsPrefix a.seen result.seen × IsPrefix b.seen result.seen }
         ensures apart { AreApart a.mine b.mine }
     {

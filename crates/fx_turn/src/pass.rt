@@ -47,7 +47,8 @@ impl<T, N, P> Model for Held<T, N, P> {
 
     ghost view = { λ h. held_of h.seat.table_id h.seat.me.0 };
 
-    ghost invariant = { λ h. (h.seat.me.1 ≡ (0, None) ∷ []) × (h.seat.me.0.holds ≡ true) × (0 < h.seat.me.0.shares) };
+    ghost invariant = { λ h. (h.seat.me.1 ≡ (0, None) ∷ []) × (h.seat.me.0.holds ≡ true)
+        × (0 < h.seat.me.0.shares) };
 }
 
 /// The value, and the turn with it. Only [`Turn::take`](crate::Turn::take) makes one, and it must be

@@ -23,7 +23,8 @@ pub(crate) struct Law<T> {
 impl<T: Growing> TableRule<Option<T>, View<T::Note, T::Part>, Start<T>> for Law<T> {
     ghost holds = { λ start. Ruled T.log T.counts T.parts start.shares };
 
-    ghost first = { λ start. resting (T.log start.first.value) (count_by T.counts (T.log start.first.value)) start.shares (T.parts start.first.value) };
+    ghost first = { λ start. resting (T.log start.first.value)
+        (count_by T.counts (T.log start.first.value)) start.shares (T.parts start.first.value) };
 }
 
 pub(crate) struct Take;

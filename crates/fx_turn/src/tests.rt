@@ -120,7 +120,8 @@ fn add_in_threads<R: Threads + Wait + Sync>(
             ensures { (result.turn ≡ other.turn) × (result.shares ≡ other.shares) }
         { add_all(rt, turn, other, rest, turns) },
         || -> Pass<Note, u32>
-            requires { IsSync R.row × (0 < rest) × (pass.turn ≡ turn.now.id) × (rest ≤ pass.shares) × ((q : ℕ) → q < rest → Has pass.mine q) }
+            requires { IsSync R.row × (0 < rest) × (pass.turn ≡ turn.now.id) × (rest ≤ pass.shares)
+                × ((q : ℕ) → q < rest → Has pass.mine q) }
             ensures { (result.turn ≡ pass.turn) × (result.shares ≡ pass.shares) }
         { add_in_threads(rt, turn, pass, rest, turns) },
     );

@@ -95,7 +95,8 @@ fn count_in_threads<R: Threads + Wait + Sync>(
             ensures { (result.turn ≡ other.turn) × (result.shares ≡ other.shares) }
         { count_alone(rt, turn, other, turns) },
         || -> Pass<u64, u32>
-            requires { IsSync R.row × (0 < rest) × (pass.turn ≡ turn.now.id) × (rest ≤ pass.shares) × ((q : ℕ) → q < rest → Has pass.mine q) }
+            requires { IsSync R.row × (0 < rest) × (pass.turn ≡ turn.now.id) × (rest ≤ pass.shares)
+                × ((q : ℕ) → q < rest → Has pass.mine q) }
             ensures { (result.turn ≡ pass.turn) × (result.shares ≡ pass.shares) }
         { count_in_threads(rt, turn, pass, rest, turns) },
     );
