@@ -6,8 +6,8 @@ use Rattle.fx_base.specs.Causes.{risen, CountsFault}
 use Rattle.fx_disk.specs.Record.{Call, Write, Flush, DiskRecord, IsBlock}
 use Rattle.fx_disk.specs.Steps.{Holds, Writes, Flushes, MadeOrNot, IsMade, IsNotMade, with_write, with_flush, IsRecordOf}
 use Rattle.fx_disk.specs.Seen.{HasRead, HasWritten, HasFlushed}
-use Rattle.fx_disks.specs.Calls.{record_of}
-use Rattle.fx_disks.specs.State.{MemoryState, seen_in, IsRead, Asks, IsAtLimit, IsStarved, IsDone, refused_state, starved_state, made_state, written_record}
+use Rattle.fx_disks.specs.Calls.{record_from}
+use Rattle.fx_disks.specs.State.{MemoryState, seen_in, IsAfterRead, Asks, IsAtLimit, IsStarved, IsDone, refused_state, starved_state, made_state, written_record}
 use Rattle.fx_disks.proofs.Holding.{record-write, record-flush, holds-written}
 
 -- a call that is made
@@ -29,11 +29,11 @@ module _ (s : MemoryState) (n : ℕ) (listed : Bool) (d disk : DiskRecord) (room
 pub kept-as : (xs ys : List Call) (call : Bool → Call) (listed ok : Bool) → ys ≡ xs ++ call (not listed) ∷ [] → not listed ≡ ok → ys ≡ xs ++ call ok ∷ []
 kept-as xs ys call listed ok e same = e ∙ ap (λ (t : Bool). xs ++ call t ∷ []) same
 
-pub written-to : (entry : List (List ℕ)) (xs ys : List Call) (at : ℕ) (bytes : List ℕ) (ok : Bool) → ys ≡ xs ++ Write at bytes ok ∷ [] → record_of entry ys ≡ written_record (record_of entry xs) at bytes ok
-written-to entry xs ys at bytes ok e = ap (record_of entry) e ∙ record-write entry xs at bytes ok
+pub written-to : (entry : List (List ℕ)) (xs ys : List Call) (at : ℕ) (bytes : List ℕ) (ok : Bool) → ys ≡ xs ++ Write at bytes ok ∷ [] → record_from entry ys ≡ written_record (record_from entry xs) at bytes ok
+written-to entry xs ys at bytes ok e = ap (record_from entry) e ∙ record-write entry xs at bytes ok
 
-pub flushed-to : (entry : List (List ℕ)) (xs ys : List Call) (ok : Bool) → ys ≡ xs ++ Flush ok ∷ [] → record_of entry ys ≡ with_flush (record_of entry xs) ok
-flushed-to entry xs ys ok e = ap (record_of entry) e ∙ record-flush entry xs ok
+pub flushed-to : (entry : List (List ℕ)) (xs ys : List Call) (ok : Bool) → ys ≡ xs ++ Flush ok ∷ [] → record_from entry ys ≡ with_flush (record_from entry xs) ok
+flushed-to entry xs ys ok e = ap (record_from entry) e ∙ record-flush entry xs ok
 
 -- what the disk tells
 made-of : (s t : MemoryState) (ok : Bool) (disk : DiskRecord) (call : Call) (does : Type 0) → length disk.calls ≡ length s.disk.calls + 1 → IsDone s t ok disk → (t.disk ≡ disk → does) → IsMade (length s.disk.calls) (length t.disk.calls) t.last_made does
@@ -91,7 +91,7 @@ counted true before now few e = record { answer = e; grows = omega (arith, e) }
 counted false before now few e = record { answer = omega (arith, e); grows = omega (arith, e, few) }
 
 -- what is seen of the disk over a read, a write and a flush
-pub read_seen : (s t : MemoryState) (ok : Bool) → s.reads ≤ 2 ^ 63 → s.faults < 2 ^ 64 → IsRead s t ok → HasRead (seen_in s) (seen_in t) ok
+pub read_seen : (s t : MemoryState) (ok : Bool) → s.reads ≤ 2 ^ 63 → s.faults < 2 ^ 64 → IsAfterRead s t ok → HasRead (seen_in s) (seen_in t) ok
 read_seen s t ok few_reads few_faults h = record {
   reads = ap (λ (x : MemoryState). x.reads) h.state;
   grows = omega (arith, few_reads, ap (λ (x : MemoryState). x.reads) h.state);

@@ -7,7 +7,7 @@ use Rattle.std.proofs.lemmas.List.Quantifiers.{all_pairs_push}
 use Rattle.std.proofs.Math.Seq.{take-suc}
 use Rattle.std.proofs.lemmas.Bool.Decides.{eqb_tells}
 use Rattle.fx_disk.specs.Record.{Call, DiskRecord}
-use Rattle.fx_disks.specs.Calls.{record_of}
+use Rattle.fx_disks.specs.Calls.{record_from}
 use Rattle.fx_disks.specs.Picks.{IsPick, ArePicks, pick_of}
 use Rattle.fx_disks.specs.Left.{Chooses, AreChosen, AreNoPicks}
 use Rattle.fx_disks.specs.declared.pick.Pick.{Pick}
@@ -47,7 +47,7 @@ pick_of-append_other (q ∷ picks) p b other = ap (λ (o : Option Loose). if q.b
 
 pub AreChosen-begin : (calls : List Call) (m n : ℕ) (chosen : List (Option Loose)) → chosen ≡ replicate n None → m ≤ length calls → AreChosen calls m chosen []
 AreChosen-begin calls m n chosen e le = record {
-  are_picks = λ entry _. record { moment = le; each = All-nil (IsPick (record_of entry calls) m); once = λ i j d lt below. absurd (omega arith) };
+  are_picks = λ entry _. record { moment = le; each = All-nil (IsPick (record_from entry calls) m); once = λ i j d lt below. absurd (omega arith) };
   choices = λ b lt. let lt' : b < n = omega (arith, ap length e, length-replicate {A = Option Loose} n None) in ap (λ (xs : List (Option Loose)). get_or xs b None) e ∙ get_or-replicate n b None None lt';
 }
 
@@ -66,17 +66,17 @@ module _ (calls : List Call) (m : ℕ) (old new : List (Option Loose)) (pick : P
   AreChosen-more taken h c =
       let blank : List (List ℕ) = replicate (length old) [] in
       let blanks : length blank ≡ length old = length-replicate {A = List ℕ} (length old) [] in
-      let mine : IsPick (record_of blank calls) m pick = c.is_pick refl blank blanks in
+      let mine : IsPick (record_from blank calls) m pick = c.is_pick refl blank blanks in
       let within : pick.block < length old = omega (arith, mine.block, blanks) in
       let free : pick_of taken pick.block ≡ None = sym (h.choices pick.block within) ∙ c.free refl in
       let set : new ≡ slice_set old pick.block (Some pick.loose) = c.chosen refl in
       record {
         are_picks = λ entry e.
             let e' : length entry ≡ length old = omega (arith, ap length set, length-set old pick.block (Some pick.loose)) in
-            let were : ArePicks (record_of entry calls) m taken = h.are_picks entry e' in
+            let were : ArePicks (record_from entry calls) m taken = h.are_picks entry e' in
             record {
               moment = were.moment;
-              each = All-push (IsPick (record_of entry calls) m) taken pick were.each (c.is_pick refl entry e');
+              each = All-push (IsPick (record_from entry calls) m) taken pick were.each (c.is_pick refl entry e');
               once = all_pairs_push (λ p q. p.block ≢ q.block) taken pick were.once (pick_of-free taken pick.block free);
             };
         choices = choices-more taken h c free;
@@ -85,7 +85,7 @@ module _ (calls : List Call) (m : ℕ) (old new : List (Option Loose)) (pick : P
 pub AreChosen-refused : (calls : List Call) (m k : ℕ) (old new : List (Option Loose)) (picks : List Pick) (pick : Pick) → k < length picks → pick ≡ get_or picks k pick
     → AreChosen calls m old (take k picks) → Chooses calls m old new pick false → AreNoPicks calls m (length old) picks
 AreChosen-refused calls m k old new picks pick lt is h c entry e all =
-    let mine : IsPick (record_of entry calls) m pick = subst (λ (p : Pick). IsPick (record_of entry calls) m p) (sym is) (all.each k pick lt) in
+    let mine : IsPick (record_from entry calls) m pick = subst (λ (p : Pick). IsPick (record_from entry calls) m p) (sym is) (all.each k pick lt) in
     let block : pick.block < length old = omega (arith, mine.block) in
     c.refused refl entry e mine (h.choices pick.block block ∙ pick_of-none (take k picks) pick.block (λ j d below same.
     let j-lt : j < k = omega (arith, below, length-take k picks) in

@@ -7,10 +7,10 @@ use Rattle.std.proofs.lemmas.Bool.Decides.{eqb_tells}
 use Rattle.fx_disk.specs.Record.{Call, Write, Flush, DiskRecord, Cell, call_at, cell_first, cell_after, cell_at, settled_cell, written_cell, flushed_cell, after_call, within_call}
 use Rattle.fx_disk.specs.Steps.{IsCallOf}
 use Rattle.fx_disk.proofs.Loose.{cell_after-more}
-use Rattle.fx_disks.specs.Calls.{bytes_by, bytes_or, record_of, call_of, is_write}
+use Rattle.fx_disks.specs.Calls.{bytes_by, bytes_or, record_from, call_of, is_write}
 use Rattle.fx_disks.specs.declared.call.Made.{Made}
 use Rattle.fx_disks.specs.declared.call.Made.TheVariants as made
-use Rattle.fx_disks.specs.Tracks.{fresh, is_fixed, settled_by, track_after, tracks_after, flushed_after, Tracks, AllTracked, AllCallsOf, TrackedAfter, TrackedAt}
+use Rattle.fx_disks.specs.Tracks.{fresh, is_fixed, settled_number, track_after, tracks_after, flushed_after, Tracks, AllTracked, AllCallsOf, TrackedAfter, TrackedAt}
 use Rattle.fx_disks.specs.declared.track.Track.{Track}
 
 and-false : (a : Bool) → (a && false) ≡ false
@@ -32,7 +32,7 @@ module _ (r : DiskRecord) (b n flushed : ℕ) (cell : Cell) (t : Track) (h : Tra
         failed = refl;
         loose = sym (ap not unfixed);
         bytes = sym (bytes_by-suc r.entry r.calls b n ∙ ap (λ (c : Call). bytes_or c (get_or r.entry b [])) is);
-        settled = h.settled ∙ ap (bytes_by r.entry r.calls b) (sym (ap (λ (x : Bool). if x then n + 1 else settled_by t flushed) unfixed));
+        settled = h.settled ∙ ap (bytes_by r.entry r.calls b) (sym (ap (λ (x : Bool). if x then n + 1 else settled_number t flushed) unfixed));
       }
 
   good-flush : t.good ≡ true → Tracks r b (n + 1) (n + 1) (flushed_cell true cell) t
@@ -99,12 +99,12 @@ pub fresh-get : (n b : ℕ) → get_or (replicate n fresh) b fresh ≡ fresh
 fresh-get n b = ⊎_elim (λ lt. get_or-replicate n b fresh fresh lt) (λ ge. get_or-eq_default (replicate n fresh) fresh (omega (arith, length-replicate n fresh))) (cases_lt b n)
 
 pub TrackedAfter-begin : (calls : List Call) (ts : List Track) → ts ≡ replicate (length ts) fresh → TrackedAfter calls 0 0 ts
-TrackedAfter-begin calls ts e = λ entry b lt. subst (λ (t : Track). Tracks (record_of entry calls) b 0 0 (cell_first (record_of entry calls) b) t) (sym (ap (λ (us : List Track). get_or us b fresh) e ∙ fresh-get (length ts) b)) (Tracks-fresh (record_of entry calls) b)
+TrackedAfter-begin calls ts e = λ entry b lt. subst (λ (t : Track). Tracks (record_from entry calls) b 0 0 (cell_first (record_from entry calls) b) t) (sym (ap (λ (us : List Track). get_or us b fresh) e ∙ fresh-get (length ts) b)) (Tracks-fresh (record_from entry calls) b)
 
 pub TrackedAfter-step : (calls : List Call) (m flushed : ℕ) (ts : List Track) (call : Call) → m < length calls → call_at calls m ≡ call → IsCallOf (length ts) call → flushed ≤ m
     → TrackedAfter calls m flushed ts → TrackedAfter calls (m + 1) (flushed_after call (m + 1) flushed) (tracks_after call (m + 1) flushed ts)
 TrackedAfter-step calls m flushed ts call lt is of le h = λ entry b below.
-    let r : DiskRecord = record_of entry calls in
+    let r : DiskRecord = record_from entry calls in
     subst (λ (c : Cell). Tracks r b (m + 1) (flushed_after call (m + 1) flushed) c (get_or (tracks_after call (m + 1) flushed ts) b fresh)) (sym (cell_after-more r m b lt ∙ ap (λ (c : Call). after_call b c (cell_after r m b)) is))
     (AllTracked-step r m flushed (cell_after r m) ts call of is le (h entry) b below)
 
@@ -124,7 +124,7 @@ write-within r n flushed b cell (made.Flush ok) t e h = absurd (cc)
 pub TrackedAt-write : (calls : List Call) (m flushed : ℕ) (ts : List Track) (made : Made) → m < length calls → call_at calls m ≡ call_of made → is_write made ≡ true → IsCallOf (length ts) (call_of made) → flushed ≤ m
     → TrackedAfter calls m flushed ts → TrackedAt calls m flushed (tracks_after (call_of made) (m + 1) flushed ts)
 TrackedAt-write calls m flushed ts made lt is write of le h = λ entry b below.
-    let r : DiskRecord = record_of entry calls in
+    let r : DiskRecord = record_from entry calls in
     subst (λ (c : Call). Tracks r b (m + 1) flushed (within_call b c (cell_after r m b)) (get_or (tracks_after (call_of made) (m + 1) flushed ts) b fresh)) (sym is)
     (write-within r (m + 1) flushed b (cell_after r m b) made _ write (AllTracked-step r m flushed (cell_after r m) ts (call_of made) of is le (h entry) b below))
 
@@ -134,7 +134,7 @@ flush-within b cell (made.Flush ok) e = refl
 
 TrackedAt-same : (calls : List Call) (m flushed : ℕ) (ts : List Track) → ((b : ℕ) (cell : Cell) → within_call b (call_at calls m) cell ≡ cell) → TrackedAfter calls m flushed ts → TrackedAt calls m flushed ts
 TrackedAt-same calls m flushed ts same h = λ entry b below.
-    let r : DiskRecord = record_of entry calls in
+    let r : DiskRecord = record_from entry calls in
     subst (λ (c : Cell). Tracks r b (m + 1) flushed c (get_or ts b fresh)) (sym (same b (cell_after r m b))) (Tracks-later r b m flushed (cell_after r m b) (get_or ts b fresh) (h entry b below))
 
 pub TrackedAt-flush : (calls : List Call) (m flushed : ℕ) (ts : List Track) (made : Made) → call_at calls m ≡ call_of made → is_write made ≡ false → TrackedAfter calls m flushed ts → TrackedAt calls m flushed ts

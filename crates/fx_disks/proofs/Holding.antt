@@ -10,7 +10,7 @@ use Rattle.fx_disk.specs.Steps.{Holds, with_write, with_flush, IsRecordOf}
 use Rattle.fx_disk.proofs.Records.{IsRecordOf-fresh, IsRecordOf-write, IsRecordOf-flush, by_block}
 use Rattle.fx_disks.specs.Blocks.{AreBlocks}
 use Rattle.fx_base.specs.Blocks.{zero_bytes}
-use Rattle.fx_disks.specs.Calls.{bytes_by, bytes_or, contents_after, record_of}
+use Rattle.fx_disks.specs.Calls.{bytes_by, bytes_or, contents_after, record_from}
 use Rattle.fx_disks.specs.Index.{IsIndex}
 use Rattle.fx_disks.specs.State.{written_record}
 
@@ -38,13 +38,13 @@ bytes_by-last entry calls call b =
     ap (bytes_by entry (calls ++ call ∷ []) b) one ∙ ap (λ (c : Call). bytes_or c (get_or entry b [])) (get_or-append_seam calls call [] (Flush false))
 
 -- the record after a write and after a flush
-pub record-write : (entry : List (List ℕ)) (calls : List Call) (at : ℕ) (bytes : List ℕ) (ok : Bool) → record_of entry (calls ++ Write at bytes ok ∷ []) ≡ written_record (record_of entry calls) at bytes ok
+pub record-write : (entry : List (List ℕ)) (calls : List Call) (at : ℕ) (bytes : List ℕ) (ok : Bool) → record_from entry (calls ++ Write at bytes ok ∷ []) ≡ written_record (record_from entry calls) at bytes ok
 record-write entry calls at bytes true = ap (λ (now : List (List ℕ)). record { entry = entry; calls = calls ++ Write at bytes true ∷ []; contents = now }) (contents_after-append entry calls (Write at bytes true ∷ []))
 record-write entry calls at bytes false =
     ap (λ (now : List (List ℕ)). record { entry = entry; calls = calls ++ Write at bytes false ∷ []; contents = now })
     (contents_after-append entry calls (Write at bytes false ∷ []) ∙ sym (set-get_or (contents_after entry calls) at []))
 
-pub record-flush : (entry : List (List ℕ)) (calls : List Call) (ok : Bool) → record_of entry (calls ++ Flush ok ∷ []) ≡ with_flush (record_of entry calls) ok
+pub record-flush : (entry : List (List ℕ)) (calls : List Call) (ok : Bool) → record_from entry (calls ++ Flush ok ∷ []) ≡ with_flush (record_from entry calls) ok
 record-flush entry calls ok = ap (λ (now : List (List ℕ)). record { entry = entry; calls = calls ++ Flush ok ∷ []; contents = now }) (contents_after-append entry calls (Flush ok ∷ []))
 
 -- what a written block holds
@@ -54,14 +54,14 @@ holds-written size calls r at bytes false h lt block = record { block = h.blocks
 
 -- the ghost facts of the disk, over a write and a flush
 pub recorded-write : (entry : List (List ℕ)) (calls : List Call) (n at : ℕ) (bytes : List ℕ) (ok : Bool) → at < length entry → IsBlock bytes
-    → IsRecordOf (length entry) n (record_of entry calls) → IsRecordOf (length entry) (n + 1) (record_of entry (calls ++ Write at bytes ok ∷ []))
+    → IsRecordOf (length entry) n (record_from entry calls) → IsRecordOf (length entry) (n + 1) (record_from entry (calls ++ Write at bytes ok ∷ []))
 recorded-write entry calls n at bytes ok lt block h =
     subst (λ (r : DiskRecord). IsRecordOf (length entry) (n + 1) r) (sym (record-write entry calls at bytes ok))
-    (IsRecordOf-write (length entry) n (record_of entry calls) at bytes ok (if ok then bytes else get_or (contents_after entry calls) at []) lt (holds-written (length entry) n (record_of entry calls) at bytes ok h lt block) h block)
+    (IsRecordOf-write (length entry) n (record_from entry calls) at bytes ok (if ok then bytes else get_or (contents_after entry calls) at []) lt (holds-written (length entry) n (record_from entry calls) at bytes ok h lt block) h block)
 
-pub recorded-flush : (entry : List (List ℕ)) (calls : List Call) (n : ℕ) (ok : Bool) → IsRecordOf (length entry) n (record_of entry calls) → IsRecordOf (length entry) (n + 1) (record_of entry (calls ++ Flush ok ∷ []))
+pub recorded-flush : (entry : List (List ℕ)) (calls : List Call) (n : ℕ) (ok : Bool) → IsRecordOf (length entry) n (record_from entry calls) → IsRecordOf (length entry) (n + 1) (record_from entry (calls ++ Flush ok ∷ []))
 recorded-flush entry calls n ok h =
-    subst (λ (r : DiskRecord). IsRecordOf (length entry) (n + 1) r) (sym (record-flush entry calls ok)) (IsRecordOf-flush (length entry) n (record_of entry calls) ok h)
+    subst (λ (r : DiskRecord). IsRecordOf (length entry) (n + 1) r) (sym (record-flush entry calls ok)) (IsRecordOf-flush (length entry) n (record_from entry calls) ok h)
 
 pub IsIndex-fresh : (entry : List (List ℕ)) → IsIndex entry [] []
 IsIndex-fresh entry = record { within = λ b lt. omega arith; reads = λ b lt. refl }
@@ -115,7 +115,7 @@ IsIndex-resize entry calls latest h = record {
         ∙ zero-get (length entry - length latest) (b - length (take (length entry) latest)) ∙ sym (get_or-eq_default latest 0 past))
         (cases_lt b (length latest))
 
-pub recorded-fresh : (entry : List (List ℕ)) → AreBlocks entry → IsRecordOf (length entry) 0 (record_of entry [])
+pub recorded-fresh : (entry : List (List ℕ)) → AreBlocks entry → IsRecordOf (length entry) 0 (record_from entry [])
 recorded-fresh entry blocks = IsRecordOf-fresh entry blocks
 
 pub IsIndex-write : (entry : List (List ℕ)) (calls : List Call) (latest : List ℕ) (at : ℕ) (bytes : List ℕ) (number : ℕ) (ok : Bool) → at < length latest → number ≡ length calls + 1 → IsIndex entry calls latest
@@ -127,8 +127,8 @@ pub few-more : (xs ys : List Call) (call : Call) → ys ≡ xs ++ call ∷ [] �
 few-more xs ys call e lt = omega (arith, ap length e, length-append xs (call ∷ []))
 
 pub recorded-write_to : (entry : List (List ℕ)) (xs ys : List Call) (at : ℕ) (bytes : List ℕ) (ok : Bool) → ys ≡ xs ++ Write at bytes ok ∷ [] → at < length entry → IsBlock bytes
-    → IsRecordOf (length entry) (length xs) (record_of entry xs) → IsRecordOf (length entry) (length ys) (record_of entry ys)
+    → IsRecordOf (length entry) (length xs) (record_from entry xs) → IsRecordOf (length entry) (length ys) (record_from entry ys)
 recorded-write_to entry xs ys at bytes ok e lt block h = rw (e, length-append xs (Write at bytes ok ∷ [])) (recorded-write entry xs (length xs) at bytes ok lt block h)
 
-pub recorded-flush_to : (entry : List (List ℕ)) (xs ys : List Call) (ok : Bool) → ys ≡ xs ++ Flush ok ∷ [] → IsRecordOf (length entry) (length xs) (record_of entry xs) → IsRecordOf (length entry) (length ys) (record_of entry ys)
+pub recorded-flush_to : (entry : List (List ℕ)) (xs ys : List Call) (ok : Bool) → ys ≡ xs ++ Flush ok ∷ [] → IsRecordOf (length entry) (length xs) (record_from entry xs) → IsRecordOf (length entry) (length ys) (record_from entry ys)
 recorded-flush_to entry xs ys ok e h = rw (e, length-append xs (Flush ok ∷ [])) (recorded-flush entry xs (length xs) ok h)

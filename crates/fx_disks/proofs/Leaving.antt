@@ -11,8 +11,8 @@ use Rattle.fx_disk.specs.Record.{Call, Write, Flush, DiskRecord, Cell, IsBlock, 
 use Rattle.fx_disk.specs.Loose.{IsWriteOf, bytes_of}
 use Rattle.fx_disk.specs.Steps.{IsRecordOf, IsCallOf}
 use Rattle.fx_base.specs.Blocks.{zero_bytes}
-use Rattle.fx_disks.specs.Calls.{bytes_by, bytes_or, record_of}
-use Rattle.fx_disks.specs.Tracks.{Tracks, TrackedAt, fresh, is_fixed, settled_by}
+use Rattle.fx_disks.specs.Calls.{bytes_by, bytes_or, record_from}
+use Rattle.fx_disks.specs.Tracks.{Tracks, TrackedAt, fresh, is_fixed, settled_number}
 use Rattle.fx_disks.specs.Picks.{IsPick, ArePicks, IsImageOf, CanBeLeft, Wrote, pick_of, left_bytes, chosen_bytes}
 use Rattle.fx_disks.specs.Left.{AreChosen, HoldsChoices, bytes_of_choice}
 use Rattle.fx_disks.specs.declared.track.Track.{Track}
@@ -106,34 +106,34 @@ fixed-bytes r b n flushed cell t h e =
 
 module _ (n : ℕ) (entry : List (List ℕ)) (calls : List Call) (m flushed : ℕ) (ts : List Track) (chosen : List (Option Loose)) (picks : List Pick) (blocks : List (List ℕ)) where
   image-each : length chosen ≡ length entry → length ts ≡ length entry → AreChosen calls m chosen picks → TrackedAt calls m flushed ts → HoldsChoices entry calls ts flushed chosen blocks (length entry)
-      → (b : ℕ) → b < length entry → get_or blocks b [] ≡ chosen_bytes (record_of entry calls) m b (pick_of picks b)
+      → (b : ℕ) → b < length entry → get_or blocks b [] ≡ chosen_bytes (record_from entry calls) m b (pick_of picks b)
   image-each len lens are tracked held b lt =
-      let all : ArePicks (record_of entry calls) m picks = are.are_picks entry (sym len) in
-      let track : Tracks (record_of entry calls) b (m + 1) flushed (cell_at (record_of entry calls) m b) (get_or ts b fresh) = tracked entry b (omega arith) in
+      let all : ArePicks (record_from entry calls) m picks = are.are_picks entry (sym len) in
+      let track : Tracks (record_from entry calls) b (m + 1) flushed (cell_at (record_from entry calls) m b) (get_or ts b fresh) = tracked entry b (omega arith) in
       held.each b lt
-      ∙ ap (bytes_of_choice entry calls b (settled_by (get_or ts b fresh) flushed)) (are.choices b (omega arith))
-      ∙ choice-chosen (record_of entry calls) m b (settled_by (get_or ts b fresh) flushed) (pick_of picks b) track.settled (λ loose e. pick_of-picked (record_of entry calls) m b loose picks all.each e)
+      ∙ ap (bytes_of_choice entry calls b (settled_number (get_or ts b fresh) flushed)) (are.choices b (omega arith))
+      ∙ choice-chosen (record_from entry calls) m b (settled_number (get_or ts b fresh) flushed) (pick_of picks b) track.settled (λ loose e. pick_of-picked (record_from entry calls) m b loose picks all.each e)
 
   pub image-of : length chosen ≡ length entry → length ts ≡ length entry → AreChosen calls m chosen picks → TrackedAt calls m flushed ts → HoldsChoices entry calls ts flushed chosen blocks (length entry)
-      → IsImageOf (record_of entry calls) m picks blocks
+      → IsImageOf (record_from entry calls) m picks blocks
   image-of len lens are tracked held = record { size = held.size; each = image-each len lens are tracked held }
 
   kept-at : length chosen ≡ length entry → length ts ≡ length entry → AreChosen calls m chosen picks → TrackedAt calls m flushed ts → HoldsChoices entry calls ts flushed chosen blocks (length entry)
-      → (b : ℕ) → b < length entry → (cell_at (record_of entry calls) m b).loose ≡ false → get_or blocks b [] ≡ (cell_at (record_of entry calls) m b).bytes
+      → (b : ℕ) → b < length entry → (cell_at (record_from entry calls) m b).loose ≡ false → get_or blocks b [] ≡ (cell_at (record_from entry calls) m b).bytes
   kept-at len lens are tracked held b lt still =
-      let all : ArePicks (record_of entry calls) m picks = are.are_picks entry (sym len) in
+      let all : ArePicks (record_from entry calls) m picks = are.are_picks entry (sym len) in
       image-each len lens are tracked held b lt
-      ∙ unpicked (pick_of picks b) (λ loose e. pick_of-picked (record_of entry calls) m b loose picks all.each e)
-      ∙ fixed-bytes (record_of entry calls) b (m + 1) flushed (cell_at (record_of entry calls) m b) (get_or ts b fresh) (tracked entry b (omega arith)) still
+      ∙ unpicked (pick_of picks b) (λ loose e. pick_of-picked (record_from entry calls) m b loose picks all.each e)
+      ∙ fixed-bytes (record_from entry calls) b (m + 1) flushed (cell_at (record_from entry calls) m b) (get_or ts b fresh) (tracked entry b (omega arith)) still
     where
-      unpicked : (choice : Option Loose) → ((loose : Loose) → choice ≡ Some loose → Picked (record_of entry calls) m b loose) → chosen_bytes (record_of entry calls) m b choice ≡ (cell_at (record_of entry calls) m b).settled
+      unpicked : (choice : Option Loose) → ((loose : Loose) → choice ≡ Some loose → Picked (record_from entry calls) m b loose) → chosen_bytes (record_from entry calls) m b choice ≡ (cell_at (record_from entry calls) m b).settled
       unpicked None h = refl
-      unpicked (Some loose) h = let mine : Picked (record_of entry calls) m b loose = h loose refl in absurd (cc mine.loose_at)
+      unpicked (Some loose) h = let mine : Picked (record_from entry calls) m b loose = h loose refl in absurd (cc mine.loose_at)
 
-  pub image-left : IsRecordOf (length entry) n (record_of entry calls) → length chosen ≡ length entry → length ts ≡ length entry → AreChosen calls m chosen picks → TrackedAt calls m flushed ts
-      → HoldsChoices entry calls ts flushed chosen blocks (length entry) → Left (record_of entry calls) m blocks
+  pub image-left : IsRecordOf (length entry) n (record_from entry calls) → length chosen ≡ length entry → length ts ≡ length entry → AreChosen calls m chosen picks → TrackedAt calls m flushed ts
+      → HoldsChoices entry calls ts flushed chosen blocks (length entry) → Left (record_from entry calls) m blocks
   image-left h len lens are tracked held = record {
     size = held.size;
-    blocks = λ b lt. subst IsBlock (sym (held.each b lt)) (choice-block (length entry) n (record_of entry calls) b (settled_by (get_or ts b fresh) flushed) (get_or chosen b None) h lt);
+    blocks = λ b lt. subst IsBlock (sym (held.each b lt)) (choice-block (length entry) n (record_from entry calls) b (settled_number (get_or ts b fresh) flushed) (get_or chosen b None) h lt);
     kept = kept-at len lens are tracked held;
   }

@@ -17,8 +17,8 @@ contents_after now (model.Write at bytes true ∷ calls) =
 contents_after now (model.Write at bytes false ∷ calls) = contents_after now calls
 contents_after now (model.Flush ok ∷ calls) = contents_after now calls
 
-abbrev pub record_of : List (List ℕ) → List Call → DiskRecord
-record_of entry calls =
+abbrev pub record_from : List (List ℕ) → List Call → DiskRecord
+record_from entry calls =
     record { entry = entry; calls = calls; contents = contents_after entry calls }
 
 -- The bytes of a write, or the other bytes where the call is a flush.

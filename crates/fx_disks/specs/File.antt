@@ -4,7 +4,7 @@ use Rattle.fx_base.specs.Causes.{risen}
 use Rattle.fx_disk.specs.Seen.{DiskSeen}
 use Rattle.fx_disks.specs.declared.file.FileDisk.{FileDisk}
 
-pub record IsFresh (writable : Bool) (d : FileDisk) : Type 0 where
+pub record IsUnused (writable : Bool) (d : FileDisk) : Type 0 where
   pub calls : d.calls ≡ 0
   pub reads : d.reads ≡ 0
   pub faults : d.faults ≡ 0
@@ -22,7 +22,7 @@ seen_of d = record {
 }
 
 -- A write or a flush that was not made: it fails, and nothing else changes.
-pub record IsRefused (before after : FileDisk) (good : Bool) : Type 0 where
+pub record IsHeldBack (before after : FileDisk) (good : Bool) : Type 0 where
   pub failed : good ≡ false
   pub faults : after.faults ≡ risen before.faults
   pub last_made : after.last_made ≡ false

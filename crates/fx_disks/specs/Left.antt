@@ -1,8 +1,8 @@
 -- What is left in the blocks, by the numbers of their writes.
 use Rattle.std.specs.Prelude.{◌≡◌, ℕ, ◌<◌, Bool, true, false, Option, Some, None, List, [], ◌++◌, length, take, drop, replicate, slice_index_or, slice_set}
 use Rattle.fx_disk.specs.Record.{Call, DiskRecord}
-use Rattle.fx_disks.specs.Calls.{bytes_by, record_of}
-use Rattle.fx_disks.specs.Tracks.{settled_by, fresh}
+use Rattle.fx_disks.specs.Calls.{bytes_by, record_from}
+use Rattle.fx_disks.specs.Tracks.{settled_number, fresh}
 use Rattle.fx_disks.specs.Picks.{IsPick, ArePicks, pick_of}
 use Rattle.fx_disks.specs.declared.track.Track.{Track}
 use Rattle.fx_base.specs.Blocks.{zero_bytes}
@@ -26,20 +26,20 @@ pub record Chooses (calls : List Call) (m : ℕ) (old new : List (Option Loose))
   pub free : answer ≡ true → slice_index_or old pick.block None ≡ None
   pub chosen : answer ≡ true → new ≡ slice_set old pick.block (Some pick.loose)
   pub is_pick : answer ≡ true → (entry : List (List ℕ)) → length entry ≡ length old →
-      IsPick (record_of entry calls) m pick
+      IsPick (record_from entry calls) m pick
   pub refused : answer ≡ false → (entry : List (List ℕ)) → length entry ≡ length old →
-      IsPick (record_of entry calls) m pick → slice_index_or old pick.block None ≡ None → ⊥
+      IsPick (record_from entry calls) m pick → slice_index_or old pick.block None ≡ None → ⊥
 
 -- The choices are those of the picks, whatever the image at entry.
 pub record AreChosen (calls : List Call) (m : ℕ) (chosen : List (Option Loose))
     (picks : List Pick) : Type 0 where
   pub are_picks : (entry : List (List ℕ)) → length entry ≡ length chosen →
-      ArePicks (record_of entry calls) m picks
+      ArePicks (record_from entry calls) m picks
   pub choices : (b : ℕ) → b < length chosen → slice_index_or chosen b None ≡ pick_of picks b
 
 abbrev pub AreNoPicks : List Call → ℕ → ℕ → List Pick → Type 0
 AreNoPicks calls m n picks = (entry : List (List ℕ)) → length entry ≡ n →
-    ArePicks (record_of entry calls) m picks → ⊥
+    ArePicks (record_from entry calls) m picks → ⊥
 
 -- The first `n` blocks hold what the choices leave in them.
 pub record HoldsChoices (entry : List (List ℕ)) (calls : List Call) (ts : List Track) (flushed : ℕ)
@@ -47,5 +47,5 @@ pub record HoldsChoices (entry : List (List ℕ)) (calls : List Call) (ts : List
   pub size : length blocks ≡ n
   pub each : (b : ℕ) → b < n →
       slice_index_or blocks b []
-      ≡ bytes_of_choice entry calls b (settled_by (slice_index_or ts b fresh) flushed)
+      ≡ bytes_of_choice entry calls b (settled_number (slice_index_or ts b fresh) flushed)
       (slice_index_or chosen b None)

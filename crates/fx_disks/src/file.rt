@@ -52,7 +52,7 @@ fn open<R: Files<File = File>>(rt: &R, path: &str, writable: bool) -> io::Result
 }
 
 impl FileDisk {
-    ghost use Rattle.fx_disks.specs.File.{IsFresh};
+    ghost use Rattle.fx_disks.specs.File.{IsUnused};
 
     /// Opens the file for reading and writing. The disk has its size divided by 4,096 blocks, at most
     /// `u32::MAX`; what is left of the file is not touched.
@@ -61,7 +61,7 @@ impl FileDisk {
     /// holds: its data is synced once, which counts as no call. It fails where the file does not
     /// open, where another disk holds it, and where the sync fails; then nothing was read.
     pub fn on<R: Files<File = File>>(rt: &R, path: &str) -> Result<FileDisk, DiskFailed>
-        ensures fresh { IfOk result (IsFresh true) }
+        ensures fresh { IfOk result (IsUnused true) }
     {
         let Ok((file, size)) = open(rt, path, true) else {
             return Err(DiskFailed);
@@ -72,7 +72,7 @@ impl FileDisk {
     /// The same for reading alone: its writes and flushes are not made, and fail. Any number of such
     /// disks hold the file at a time, while none that writes does.
     pub fn to_read<R: Files<File = File>>(rt: &R, path: &str) -> Result<FileDisk, DiskFailed>
-        ensures fresh { IfOk result (IsFresh false) }
+        ensures fresh { IfOk result (IsUnused false) }
     {
         let Ok((file, size)) = open(rt, path, false) else {
             return Err(DiskFailed);
@@ -82,7 +82,7 @@ impl FileDisk {
 
     /// A disk over a file of this size, in bytes, before its first call.
     pub(crate) fn over(file: File, size: u64, writable: bool) -> FileDisk
-        ensures { IsFresh writable result }
+        ensures { IsUnused writable result }
     {
         FileDisk {
             file,
@@ -103,7 +103,7 @@ fn place_of(at: u32) -> u64 {
 
 impl Disk for FileDisk {
     ghost use Rattle.fx_disk.specs.Seen.{HasWritten, HasFlushed};
-    ghost use Rattle.fx_disks.specs.File.{IsRefused, seen_of};
+    ghost use Rattle.fx_disks.specs.File.{IsHeldBack, seen_of};
 
     ghost seen = { λ d. seen_of d };
 
@@ -137,7 +137,7 @@ impl Disk for FileDisk {
     fn write(&mut self, at: u32, from: &[u8; BLOCK_BYTES]) -> Result<(), DiskFailed>
         ensures written { HasWritten (seen_of self.old) (seen_of self.new) at from.now
             (is_ok result) }
-        ensures refused { self.old.writable ≡ false → IsRefused self.old self.new (is_ok result) }
+        ensures refused { self.old.writable ≡ false → IsHeldBack self.old self.new (is_ok result) }
     {
         self.last_made = self.writable && self.calls < MAX_CALLS;
         if self.last_made {
@@ -152,7 +152,7 @@ impl Disk for FileDisk {
 
     fn flush(&mut self) -> Result<(), DiskFailed>
         ensures flushed { HasFlushed (seen_of self.old) (seen_of self.new) (is_ok result) }
-        ensures refused { self.old.writable ≡ false → IsRefused self.old self.new (is_ok result) }
+        ensures refused { self.old.writable ≡ false → IsHeldBack self.old self.new (is_ok result) }
         // From a flush that failed on every write and flush is refused.
         ensures shut { OnErr result (self.new.writable ≡ false) }
     {

@@ -3,8 +3,8 @@ ghost use Rattle.std.specs.Prelude.{◌≡◌, ◌↔◌, ℕ, false, ◌+◌, �
 ghost use Rattle.fx_disk.specs.Record.{Left};
 ghost use Rattle.fx_disk.specs.Loose.{IsWriteOf};
 ghost use Rattle.fx_disk.specs.Steps.{IsRecordOf};
-ghost use Rattle.fx_disks.specs.Calls.{call_of, bytes_by, record_of};
-ghost use Rattle.fx_disks.specs.Tracks.{settled_by, fresh, TrackedAt};
+ghost use Rattle.fx_disks.specs.Calls.{call_of, bytes_by, record_from};
+ghost use Rattle.fx_disks.specs.Tracks.{settled_number, fresh, TrackedAt};
 ghost use Rattle.fx_base.specs.Blocks.{zero_bytes};
 ghost use Rattle.fx_disks.specs.Picks.{CanBeLeft, Wrote, ArePicks, IsImageOf};
 ghost use Rattle.fx_disks.specs.Left.{bytes_of_choice, Chooses, AreChosen, AreNoPicks, HoldsChoices};
@@ -162,7 +162,7 @@ fn left_blocks(
 {
     let mut blocks = Vec::with_capacity(alloc, entry.len())?;
     for block in 0..entry.len() {
-        let settled = tracks[block].settled_by(flushed);
+        let settled = tracks[block].settled_number(flushed);
         blocks.push(left_in(entry, calls, block, settled, chosen[block]))?;
     }
     Ok(blocks)
@@ -177,15 +177,16 @@ pub fn picked_blocks(
     picks: &[Pick],
 ) -> Result<Option<Vec<[u8; 4096]>>, AllocError>
     requires record { IsRecordOf (length entry.now) (length (map call_of calls.now))
-        (record_of entry.now (map call_of calls.now)) }
+        (record_from entry.now (map call_of calls.now)) }
     requires moment { moment ≤ length calls.now }
     ensures picks { IfOk result
-        (λ o. IsSome o ↔ ArePicks (record_of entry.now (map call_of calls.now)) moment picks.now) }
+        (λ o. IsSome o ↔ ArePicks (record_from entry.now (map call_of calls.now)) moment
+        picks.now) }
     ensures image { IfOk result
-        (λ o. IfSome o (λ v. IsImageOf (record_of entry.now (map call_of calls.now)) moment
+        (λ o. IfSome o (λ v. IsImageOf (record_from entry.now (map call_of calls.now)) moment
         picks.now v.items)) }
     ensures left { IfOk result
-        (λ o. IfSome o (λ v. Left (record_of entry.now (map call_of calls.now)) moment v.items)) }
+        (λ o. IfSome o (λ v. Left (record_from entry.now (map call_of calls.now)) moment v.items)) }
 {
     let mut tracks = Vec::new(alloc);
     tracks.resize(entry.len(), Track::fresh())?;

@@ -2,7 +2,7 @@
 ghost use Rattle.std.specs.Prelude.{◌≡◌, ℕ, ◌+◌, ◌-◌, ◌<◌, ◌≤◌, ◌^◌, min, Bool, true, false, IsTrue, ◌↔◌, IfOk, IfSome, IsSome, OnOk, OnErr, is_ok, Some, IsPermutation, List, [], ◌∷◌, ◌++◌, length, map, replicate, slice_index_or, slice_set, if◌then◌else◌};
 ghost use Rattle.fx_disk.specs.Record as model;
 ghost use Rattle.fx_disk.specs.Steps.{IsRecordOf, IsRecordOf-prop, with_flush};
-ghost use Rattle.fx_disks.specs.Calls.{call_of, record_of};
+ghost use Rattle.fx_disks.specs.Calls.{call_of, record_from};
 ghost use Rattle.fx_disks.specs.Index.{IsIndex, IsIndex-prop};
 
 use crate::call::Made;
@@ -32,9 +32,12 @@ pub struct MemDisk {
     fail_calls: Numbers,
     fail_reads: Numbers,
     ghost recorded: { IsRecordOf (length entry.items) (length (map call_of calls.items))
-        (record_of entry.items (map call_of calls.items)) } by { IsRecordOf-prop (length entry.items) (length (map call_of calls.items))
-            (record_of entry.items (map call_of calls.items)) },
-    ghost indexed: { IsIndex entry.items (map call_of calls.items) latest.items } by { IsIndex-prop entry.items (map call_of calls.items) latest.items },
+        (record_from entry.items (map call_of calls.items)) } by { IsRecordOf-prop
+            (length entry.items) (length (map call_of calls.items))
+            (record_from entry.items (map call_of calls.items)) },
+    ghost indexed: { IsIndex entry.items (map call_of calls.items)
+        latest.items } by { IsIndex-prop entry.items (map call_of calls.items)
+            latest.items },
     ghost few_blocks: { length entry.items < 2 ^ 32 },
     ghost few_calls: { length (map call_of calls.items) ≤ 2 ^ 63 },
     ghost few_reads: { reads ≤ 2 ^ 63 },
@@ -103,14 +106,14 @@ fn keep_write(
 }
 
 impl MemDisk {
-    ghost use Rattle.fx_disks.specs.State.{fresh_state, IsRead, Asks, written_record};
+    ghost use Rattle.fx_disks.specs.State.{fresh_state, IsAfterRead, Asks, written_record};
     ghost use Rattle.fx_disks.specs.Picks.{ArePicks, IsImageOf};
     ghost use Rattle.fx_base.specs.Blocks.{zero_bytes};
-    ghost use Rattle.fx_disks.specs.Memory.{state_of, told_of};
+    ghost use Rattle.fx_disks.specs.Memory.{memory_state, told_of};
 
     /// A disk of so many blocks of zeros.
     pub fn new(alloc: Global, blocks: u32) -> Result<MemDisk, AllocError>
-        ensures { IfOk result (λ d. state_of d ≡ fresh_state (replicate blocks zero_bytes)) }
+        ensures { IfOk result (λ d. memory_state d ≡ fresh_state (replicate blocks zero_bytes)) }
     {
         let mut zeros = Vec::new(alloc);
         zeros.resize(blocks as usize, zero_block())?;
@@ -120,7 +123,7 @@ impl MemDisk {
     /// A disk that reads as the image, with nothing loose and no calls. It takes no memory.
     pub fn from_image(alloc: Global, image: Image) -> MemDisk
         requires { length image < 2 ^ 32 }
-        ensures { state_of result ≡ fresh_state image }
+        ensures { memory_state result ≡ fresh_state image }
     {
         MemDisk {
             alloc,
@@ -139,9 +142,9 @@ impl MemDisk {
     /// The writes and flushes with these numbers, from 1, are to fail, and no other ones. It takes no
     /// memory, and sorts the numbers in place.
     pub fn fail_calls(&mut self, calls: Vec<u64>)
-        ensures listed { IsPermutation calls.items (state_of self.new).fail_calls }
-        ensures same { state_of self.new
-            ≡ record (state_of self.old) { fail_calls = (state_of self.new).fail_calls } }
+        ensures listed { IsPermutation calls.items (memory_state self.new).fail_calls }
+        ensures same { memory_state self.new
+            ≡ record (memory_state self.old) { fail_calls = (memory_state self.new).fail_calls } }
     {
         self.fail_calls = Numbers::of(calls);
     }
@@ -149,16 +152,16 @@ impl MemDisk {
     /// The reads with these numbers, from 1, are to fail, and no other ones. It takes no memory, and
     /// sorts the numbers in place.
     pub fn fail_reads(&mut self, reads: Vec<u64>)
-        ensures listed { IsPermutation reads.items (state_of self.new).fail_reads }
-        ensures same { state_of self.new
-            ≡ record (state_of self.old) { fail_reads = (state_of self.new).fail_reads } }
+        ensures listed { IsPermutation reads.items (memory_state self.new).fail_reads }
+        ensures same { memory_state self.new
+            ≡ record (memory_state self.old) { fail_reads = (memory_state self.new).fail_reads } }
     {
         self.fail_reads = Numbers::of(reads);
     }
 
     /// The writes and flushes that were not made for want of memory. At `u64::MAX` the count stands still.
     pub fn starved(&self) -> u64
-        ensures { result ≡ (state_of self.now).starved }
+        ensures { result ≡ (memory_state self.now).starved }
     {
         self.starved
     }
@@ -166,7 +169,7 @@ impl MemDisk {
     // A read that is asked for, and whether it answers Ok.
     fn try_read(&mut self, at: u32, into: &mut [u8; 4096]) -> bool
         requires { at < length (told_of self.old).entry }
-        ensures state { IsRead (state_of self.old) (state_of self.new) result }
+        ensures state { IsAfterRead (memory_state self.old) (memory_state self.new) result }
         ensures bytes { result ≡ true →
             into.new ≡ slice_index_or (told_of self.old).contents at [] }
     {
@@ -187,7 +190,7 @@ impl MemDisk {
     // A write that is asked for, and whether it answers Ok.
     fn try_write(&mut self, at: u32, from: &[u8; 4096]) -> bool
         requires { at < length (told_of self.old).entry }
-        ensures { Asks (state_of self.old) (state_of self.new) result
+        ensures { Asks (memory_state self.old) (memory_state self.new) result
             (written_record (told_of self.old) at from.now result) }
     {
         if self.calls.len() as u64 >= MAX_CALLS {
@@ -221,7 +224,7 @@ impl MemDisk {
 
     // A flush that is asked for, and whether it answers Ok.
     fn try_flush(&mut self) -> bool
-        ensures { Asks (state_of self.old) (state_of self.new) result
+        ensures { Asks (memory_state self.old) (memory_state self.new) result
             (with_flush (told_of self.old) result) }
     {
         if self.calls.len() as u64 >= MAX_CALLS {
@@ -271,10 +274,10 @@ impl MemDisk {
 
 impl Disk for MemDisk {
     ghost use Rattle.fx_disk.specs.Seen.{HasRead, HasWritten, HasFlushed};
-    ghost use Rattle.fx_disks.specs.State.{seen_in, IsRead, Asks, written_record};
-    ghost use Rattle.fx_disks.specs.Memory.{state_of, told_of};
+    ghost use Rattle.fx_disks.specs.State.{seen_in, IsAfterRead, Asks, written_record};
+    ghost use Rattle.fx_disks.specs.Memory.{memory_state, told_of};
 
-    ghost seen = { λ d. seen_in (state_of d) };
+    ghost seen = { λ d. seen_in (memory_state d) };
 
     fn blocks(&self) -> u32 {
         self.entry.len() as u32
@@ -294,9 +297,9 @@ impl Disk for MemDisk {
 
     fn read(&mut self, at: u32, into: &mut [u8; 4096]) -> Result<(), DiskFailed>
         requires { at < length (told_of self.old).entry }
-        ensures state { IsRead (state_of self.old) (state_of self.new) (is_ok result) }
+        ensures state { IsAfterRead (memory_state self.old) (memory_state self.new) (is_ok result) }
         ensures bytes { OnOk result (into.new ≡ slice_index_or (told_of self.old).contents at []) }
-        ensures read { HasRead (seen_in (state_of self.old)) (seen_in (state_of self.new))
+        ensures read { HasRead (seen_in (memory_state self.old)) (seen_in (memory_state self.new))
             (is_ok result) }
     {
         if self.try_read(at, into) {
@@ -308,9 +311,10 @@ impl Disk for MemDisk {
 
     fn write(&mut self, at: u32, from: &[u8; 4096]) -> Result<(), DiskFailed>
         requires { at < length (told_of self.old).entry }
-        ensures state { Asks (state_of self.old) (state_of self.new) (is_ok result)
+        ensures state { Asks (memory_state self.old) (memory_state self.new) (is_ok result)
             (written_record (told_of self.old) at from.now (is_ok result)) }
-        ensures written { HasWritten (seen_in (state_of self.old)) (seen_in (state_of self.new))
+        ensures written { HasWritten (seen_in (memory_state self.old))
+            (seen_in (memory_state self.new))
             at from.now (is_ok result) }
     {
         if self.try_write(at, from) {
@@ -321,9 +325,10 @@ impl Disk for MemDisk {
     }
 
     fn flush(&mut self) -> Result<(), DiskFailed>
-        ensures state { Asks (state_of self.old) (state_of self.new) (is_ok result)
+        ensures state { Asks (memory_state self.old) (memory_state self.new) (is_ok result)
             (with_flush (told_of self.old) (is_ok result)) }
-        ensures flushed { HasFlushed (seen_in (state_of self.old)) (seen_in (state_of self.new))
+        ensures flushed { HasFlushed (seen_in (memory_state self.old))
+            (seen_in (memory_state self.new))
             (is_ok result) }
     {
         if self.try_flush() {

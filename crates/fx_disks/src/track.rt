@@ -3,8 +3,8 @@ ghost use Rattle.std.specs.Prelude.{◌≡◌, ◌↔◌, ℕ, ◌+◌, ◌-◌,
 ghost use Rattle.fx_disk.specs.Record.{cell_at};
 ghost use Rattle.fx_disk.specs.Record as model;
 ghost use Rattle.fx_disk.specs.Steps.{IsCallOf};
-ghost use Rattle.fx_disks.specs.Calls.{call_of, record_of, bytes_by};
-ghost use Rattle.fx_disks.specs.Tracks.{is_fixed, settled_by, track_after, tracks_after, flushed_after, fresh, AllCallsOf, TrackedAfter, TrackedAt};
+ghost use Rattle.fx_disks.specs.Calls.{call_of, record_from, bytes_by};
+ghost use Rattle.fx_disks.specs.Tracks.{is_fixed, settled_number, track_after, tracks_after, flushed_after, fresh, AllCallsOf, TrackedAfter, TrackedAt};
 
 use crate::call::Made;
 use std::alloc::{AllocError, Global};
@@ -39,8 +39,8 @@ impl Track {
     }
 
     /// The write whose bytes are the settled ones.
-    pub fn settled_by(&self, flushed: u64) -> u64
-        ensures { result ≡ settled_by self.now flushed }
+    pub fn settled_number(&self, flushed: u64) -> u64
+        ensures { result ≡ settled_number self.now flushed }
     {
         if self.is_fixed(flushed) {
             self.written
@@ -55,7 +55,7 @@ impl Track {
         Track {
             written: number,
             good: ok,
-            settled: self.settled_by(flushed),
+            settled: self.settled_number(flushed),
         }
     }
 }

@@ -1,6 +1,6 @@
 use Rattle.std.proofs.Common.{◌≡◌, ◌<◌, ◌≤◌, ℕ, subst, sym, length, List, [], map, ap, arith, lit<, lit≤}
 use Rattle.fx_disk.specs.Steps.{IsRecordOf}
-use Rattle.fx_disks.specs.Calls.{call_of, record_of}
+use Rattle.fx_disks.specs.Calls.{call_of, record_from}
 use Rattle.fx_disks.specs.declared.call.Made.{Made}
 use Rattle.fx_disks.proofs.Holding.{IsIndex-fresh, recorded-fresh}
 use Rattle.fx_disks.proofs.memory.MemDisk.from_image.Goals as goal
