@@ -1,5 +1,5 @@
 -- The write and the flush of a mount, by what the disk tells.
-use Rattle.std.proofs.Common.{◌≡◌, ℕ, ◌+◌, ◌^◌, ◌<◌, ◌≤◌, List, [], Bool, append-nil, length, refl, sym, ap, subst, ◌∙◌, arith}
+use Rattle.std.proofs.Common.{◌≡◌, ℕ, ◌+◌, ◌^◌, ◌<◌, ◌≤◌, List, [], Bool, true, append-nil, length, refl, sym, ap, subst, ◌∙◌, arith}
 use Rattle.std.specs.Prelude.{IfSome, None, Option, Some}
 use Rattle.fx_disk.specs.Record.{DiskRecord}
 use Rattle.fx_disk.specs.Seen.{DiskSeen, GoesOn, HasFlushed, HasWritten}

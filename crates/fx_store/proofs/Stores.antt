@@ -268,12 +268,12 @@ module _ {seen : DiskSeen} {from : ℕ} {s : Session} {ring : RingState} {pool :
 
       pub store-written : good ≡ true → (new : RingState) (region : Region) → new ≡ without_first ring → KeepsRing ring new pool region → blocks_out region + length ring.buffers ≡ blocks_out pool + length new.buffers
           → ((queue : List Queued) → HoldsQueue ring pool queue → HoldsQueue new region (drop 1 queue)) → IsStore later from s new region
-      store-written yes new region e kept given queue = record {
+      store-written was_good new region e kept given queue = record {
         journal = with_written j;
         size_is = h.size_is ∙ sym wrote.size;
         from_is = h.from_is;
         opens = h.opens;
-        mounted = mounted-written j seen.calls seen.told ring pool h.mounted seen.size is later.told later.calls later.last_made good before sequence next wrote.made yes new region e (queue (drop j.log.tail.written j.log.tail.blocks) h.mounted.ring_is.queue);
+        mounted = mounted-written j seen.calls seen.told ring pool h.mounted seen.size is later.told later.calls later.last_made good before sequence next wrote.made was_good new region e (queue (drop j.log.tail.written j.log.tail.blocks) h.mounted.ring_is.queue);
         session = record { base = h.session.base; txns = h.session.txns; history = h.session.history; settled = h.session.settled; tree = h.session.tree; knows = h.session.knows; id = h.session.id; store = h.session.store };
         buffers = buffers-written ring new pool region h.buffers e kept.ring kept.buffers given kept.others.order;
       }
@@ -292,7 +292,7 @@ module _ {seen : DiskSeen} {from : ℕ} {s : Session} {ring : RingState} {pool :
       }
 
       -- no block waits
-      module _ (yes : good ≡ true) (none : ring.queued + begun ring.text ≡ 0) where
+      module _ (was_good : good ≡ true) (none : ring.queued + begun ring.text ≡ 0) where
         out : IsWrittenOut j.log.tail
         out = record {
           written = omega (arith, none, h.mounted.ring_is.queue.count, length-drop j.log.tail.written j.log.tail.blocks, is_journal.tail.most);
@@ -303,10 +303,10 @@ module _ {seen : DiskSeen} {from : ℕ} {s : Session} {ring : RingState} {pool :
         flushed = with_settled (seen.calls + 1) j
 
         mounted-now : IsMounted flushed later.calls later.told ring pool
-        mounted-now = mounted-settled j seen.calls seen.told ring pool h.mounted seen.size is later.told later.calls later.last_made good w.made yes out
+        mounted-now = mounted-settled j seen.calls seen.told ring pool h.mounted seen.size is later.told later.calls later.last_made good w.made was_good out
 
         counted-is : later.calls ≡ seen.calls + 1
-        counted-is = made-counts seen.calls later.calls later.last_made good _ _ yes w.made
+        counted-is = made-counts seen.calls later.calls later.last_made good _ _ was_good w.made
 
         module _ (t : Session) (e : t ≡ record s { settled = length s.history.items; history = t.history }) (items : t.history.items ≡ settle later.calls s.history.items) where
           history-is : t.history.items ≡ settle (seen.calls + 1) j.commits.history
@@ -333,8 +333,8 @@ module _ {seen : DiskSeen} {from : ℕ} {s : Session} {ring : RingState} {pool :
           }
 
           -- every image left has the whole history
-          pub store-whole : IfSome later.told (KeepsWhole later.size from (txns_of s.txns) s.base t.history.items)
-          store-whole = told-map (KeepsAll flushed.log.size flushed.log.from flushed.opening.tree flushed.opening.base flushed.commits.history) (KeepsWhole later.size from (txns_of s.txns) s.base t.history.items) later.told
+          whole-before : IfSome later.told (KeepsWhole later.size from (txns_of s.txns) s.base t.history.items)
+          whole-before = told-map (KeepsAll flushed.log.size flushed.log.from flushed.opening.tree flushed.opening.base flushed.commits.history) (KeepsWhole later.size from (txns_of s.txns) s.base t.history.items) later.told
               (λ r all opening opens.
               subst (λ (n : ℕ). KeepsAll n from opening s.base t.history.items r) (h.size_is ∙ sym w.size)
               (subst (λ (n : ℕ). KeepsAll j.log.size n opening s.base t.history.items r) h.from_is
@@ -342,6 +342,11 @@ module _ {seen : DiskSeen} {from : ℕ} {s : Session} {ring : RingState} {pool :
               (subst (λ (n : ℕ). KeepsAll j.log.size j.log.from j.opening.tree n t.history.items r) (sym h.session.base)
               (subst (λ (es : List Entry). KeepsAll j.log.size j.log.from j.opening.tree j.opening.base es r) (sym history-is) all)))))
               (mounted-all flushed later.calls later.told ring pool mounted-now (settled-out (seen.calls + 1) j out) refl)
+
+          pub store-whole : IfSome later.told (KeepsWhole later.size from (txns_of t.txns) t.base t.history.items)
+          store-whole =
+              subst (λ (n : ℕ). IfSome later.told (KeepsWhole later.size from (txns_of t.txns) n t.history.items)) (sym (ap (λ (x : Session). x.base) e))
+              (subst (λ (ts : Transactions). IfSome later.told (KeepsWhole later.size from ts s.base t.history.items)) (sym (ap (λ (x : Session). txns_of x.txns) e)) whole-before)
 
   -- ---- the end
 

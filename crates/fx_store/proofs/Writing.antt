@@ -34,10 +34,10 @@ module _ {seen : DiskSeen} {from : ℕ} {s : Session} {ring : RingState} {pool :
   first-written = made sequence (store-queue h).0 next (store-queue h).1
 
   pub one-counted : good ≡ true → later.calls ≡ seen.calls + 1
-  one-counted yes = made-counts seen.calls later.calls later.last_made good _ _ yes first-written.made
+  one-counted was_good = made-counts seen.calls later.calls later.last_made good _ _ was_good first-written.made
 
   pub one-at-most : later.calls ≤ seen.calls + 1
   one-at-most = one_call_more seen.calls later.calls later.last_made good _ _ first-written.made
 
   pub failed-last : good ≡ false → HasFailedLast later
-  failed-last no = write_failed_last seen later _ _ (subst (HasWritten seen later (block_at ring sequence) (first_bytes ring.epoch (store-queue h).0)) no first-written)
+  failed-last failed = write_failed_last seen later _ _ (subst (HasWritten seen later (block_at ring sequence) (first_bytes ring.epoch (store-queue h).0)) failed first-written)
