@@ -19,10 +19,10 @@ EXCEPTIONS = {
 # Names that stand twice and are still to get names of their own.
 TO_COME = {
     "Blocks", "Call", "DiskSeen", "Flushes", "Gives", "GoesOn", "HasFailed", "Holds", "IsBelow",
-    "IsMade", "IsRead", "IsReady", "IsRefused", "IsSound", "IsWithin", "KeepsOthers", "Knows",
+    "IsMade", "IsReady", "IsRefused", "IsSound", "IsWithin", "KeepsOthers", "Knows",
     "Syncs", "Takes", "bare", "by_path", "bytes_of", "entry_of", "given", "is_synced", "node_at",
-    "node_code", "node_of", "place_after", "read_of", "refused", "settled_by", "spent",
-    "state_of", "table_code", "table_of", "tree_after", "without",
+    "node_code", "node_of", "place_after", "read_of", "refused", "spent",
+    "table_code", "table_of", "tree_after", "without",
 }
 
 DEFINES = re.compile(
