@@ -1,117 +1,208 @@
--- Tables by what stands in memory: what each call keeps, and what it does to the table.
-use Rattle.std.proofs.Common.{◌≡◌, ◌≢◌, ℕ, zero, suc, ◌+◌, ◌-◌, ◌<◌, ◌≤◌, ◌==◌, ◌⊎◌, inl, inr, Bool, true, false, not, cond, eqb, nat_eq, List, [], ◌∷◌, ◌++◌, map, length, get_or, Option, Some, None, is_some, unwrap_or, refl, sym, ap, ◌∙◌, subst, arith, eqb-true, ne_eqb, eq-eqb, vec_len, vec_capacity, Vec, length-append, ◌||◌}
-use Rattle.std.specs.Global.{Global}
-use Rattle.std.specs.List.{IsDistinct, HoldsAt, list_any}
-use Rattle.std.specs.List.Sorted.{IsStrictlySortedBy}
+-- Tables by the list of numbers: what each call keeps, and what it does to the table.
+use Rattle.std.proofs.Common.{◌≡◌, ◌≢◌, ℕ, zero, suc, ◌+◌, ◌-◌, ◌<◌, ◌≤◌, ◌==◌, ◌&&◌, ◌⊎◌, inl, inr, Bool, true, false, not, cond, eqb, nat_eq, List, [], ◌∷◌, ◌++◌, map, length, get_or, All, Option, Some, None, Result, Ok, Err, OnOk, OnErr, Less, is_some, unwrap_or, refl, sym, ap, ◌∙◌, subst, arith, eqb-true, ne_eqb, eq-eqb, length-append}
+use Rattle.std.specs.List.{IsDistinct, list_any}
 use Rattle.std.specs.Ordering.{nat_cmp, eq_by_cmp}
 use Rattle.std.specs.Cmp.{nat_cmp_total}
 use Rattle.std.specs.FinMap as finite
-use Rattle.std.specs.FinMap.{get-from_entries, get-insert, same_map, nat_cmp-IsAntisymmetric, get-remove}
-use Rattle.std.proofs.lemmas.Bool.{eqb-false, cases_eq, or_cases}
+use Rattle.std.specs.FinMap.{get-from_entries, get-insert, get-retain_keys, same_map, nat_cmp-IsAntisymmetric, get-remove}
+use Rattle.std.proofs.lemmas.Bool.{eqb-false, cases_eq}
 use Rattle.std.proofs.lemmas.Cmp.{nat_eq_equiv}
 use Rattle.std.proofs.lemmas.List.{length-map}
-use Rattle.std.proofs.lemmas.List.Elements.{All-nil, All-weaker, All-get_or}
-use Rattle.std.proofs.lemmas.List.Folds.{list_any-append}
-use Rattle.std.proofs.lemmas.List.Sums.{sum_by-cons}
-use Rattle.std.proofs.lemmas.Map.Keys.{IsDistinct-push}
-use Rattle.std.proofs.lemmas.Map.Made.{length-le_from_is_member, All-is_member}
+use Rattle.std.proofs.lemmas.List.Elements.{All-nil, All-weaker, All-contains, All-from_recursion}
+use Rattle.std.proofs.lemmas.Map.Keys.{IsDistinct-push, IsDistinct-head, IsDistinct-tail}
+use Rattle.std.proofs.lemmas.Map.Made.{All-is_member}
 use Rattle.smallvec.specs.SmallVec.{SmallVec, HasRoomFor}
 use Rattle.fx_item.specs.declared.lock.LockKey.{LockKey}
 use Rattle.fx_item.specs.declared.lock.Mode.{Mode}
 use Rattle.fx_item.specs.declared.lock.Mode.TheVariants.{Share, Change, Write, Read}
-use Rattle.fx_keys.specs.declared.array.Holder.{Holder}
-use Rattle.fx_keys.specs.declared.array.Entry.{Entry}
-use Rattle.fx_keys.specs.declared.rooms.Room.{Room}
-use Rattle.fx_keys.specs.declared.table.Asked.{Asked}
-use Rattle.fx_keys.specs.declared.table.Asked.TheVariants.{Held, Busy}
+use Rattle.fx_item.specs.LockKey.{key_cmp}
+use Rattle.fx_keys.specs.declared.holdings.Hold.{Hold}
+use Rattle.fx_keys.specs.declared.seats.Seat.{Seat}
 use Rattle.fx_keys.specs.declared.table.TheConstants.{MAX_NUMBERS}
 use Rattle.fx_keys.specs.Conflict.{are_conflicting}
-use Rattle.fx_keys.specs.Table.{hold_cmp, mode_of, room_of, IsConsistent, IsListed, HasSeatFor, IsAboveKeysOf, Blocks, Reads, IsLeast, GainsRoom, Gains, Leaves, RaiseGives}
-use Rattle.fx_keys.specs.Array.{holds_in, map_of, mode_at, IsInline, IsKeyArray, HasPlaceAt, HoldGives, Hinders, released}
-use Rattle.fx_keys.specs.Rooms.{rooms_in, places_of, all_places, given, spent, left_by, table_of, IsSound}
-use Rattle.fx_keys.proofs.Orders.{hold_total, key_irreflexive, get-insert_same, get-insert_other, get-left, same_or_not, keys_apart, nat_ties}
-use Rattle.fx_keys.proofs.KeyHolders.{not_listed, listed_found}
-use Rattle.fx_keys.proofs.KeyArrays.{mode_at-get}
-use Rattle.fx_keys.proofs.KeyDrops.{map_of-released, array-released}
-use Rattle.fx_keys.proofs.RoomLists.{is_some-places_of, spent_is, changed, numbers-changed, length-changed, places_of-changed_other, places_of-changed_same, all_places-changed, places_of-left, apart-left, length-left, all_places-left, place_here, place_past}
+use Rattle.fx_keys.specs.Table.{Table, hold_cmp, mode_of, room_of, IsConsistent, IsListed, HasSeatFor, IsAboveKeysOf, Blocks, Reads, IsLeast, GainsRoom, Gains, Rises, Leaves}
+use Rattle.fx_keys.specs.Holdings.{Grants, no_grants, mode_in, roomier, granted, IsRaised}
+use Rattle.fx_keys.specs.Seats.{holds_at, holds_in, rooms_in, table_of, seat_of, grants_of, seated, with_places, with_hold, RaisesAt, left_by, is_excluding, is_blocking, blockers, IsLeastOf, IsSound}
+use Rattle.fx_keys.proofs.Orders.{hold_total, hold_exact, hold_ties, key_itself, numbers_apart, key_irreflexive, get-insert_same, get-insert_other, get-left, same_or_not, keys_apart, nat_ties}
+use Rattle.fx_keys.proofs.HoldArrays.{mode_granted, some_none}
+use Rattle.fx_keys.proofs.SeatLists.{seat_here, seat_past, is_some-seat_of, seat_of-seated, numbers-seated, seat_of-left, apart-left, length-left}
+use Rattle.fx_keys.proofs.Blockers.{found_has, blocker_has, all_block, IsBlocker}
+
+abbrev pub AreApart : List Seat → Type 0
+AreApart ss = IsDistinct nat_eq (map (λ s. s.who) ss)
 
 -- ---- the parts of a table
 
-pub mode_of-table : (es : List Entry) (rs : List Room) (who : ℕ) (key : LockKey) → mode_of (table_of es rs) who key ≡ mode_at es key who
-mode_of-table es rs who key = get-from_entries hold_total (holds_in es) (key, who)
+abbrev or_else : {X : Type 0} → Option X → Option X → Option X
+or_else None b = b
+or_else (Some a) b = Some a
 
-pub room_of-table : (es : List Entry) (rs : List Room) (who : ℕ) → room_of (table_of es rs) who ≡ unwrap_or (places_of rs who) 0
-room_of-table es rs who = ap (λ o. unwrap_or o 0) (get-from_entries nat_cmp_total (rooms_in rs) who)
+find-append : (q : LockKey × ℕ) (xs ys : List ((LockKey × ℕ) × Mode)) → finite.find hold_cmp q (xs ++ ys) ≡ or_else (finite.find hold_cmp q xs) (finite.find hold_cmp q ys)
+find-append q [] ys = refl
+find-append q (x ∷ xs) ys =
+    elim (eq_by_cmp hold_cmp q x.0) as (λ b. cond b (Some x.1) (finite.find hold_cmp q (xs ++ ys)) ≡ or_else (cond b (Some x.1) (finite.find hold_cmp q xs)) (finite.find hold_cmp q ys)) [
+      | true ↦ refl
+      | false ↦ find-append q xs ys
+    ]
 
-some_none : {X : Type 0} (x : X) → Some x ≡ None → ⊥
-some_none x e = absurd (cc)
+or_none : {X : Type 0} (a : Option X) → or_else a None ≡ a
+or_none None = refl
+or_none (Some a) = refl
 
--- a number above whose keys the key lies does not hold it
-pub absent : (es : List Entry) (rs : List Room) (who : ℕ) (key : LockKey) → IsAboveKeysOf (table_of es rs) who key → mode_at es key who ≡ None
-absent es rs who key above =
-    elim (mode_at es key who) as (λ o. mode_at es key who ≡ o → o ≡ None) [
+or_other : {X : Type 0} (b : Option X) → or_else None b ≡ b
+or_other b = refl
+
+and_true : (b : Bool) → (b && true) ≡ b
+and_true true = refl
+and_true false = refl
+
+and_false : (b : Bool) → (b && false) ≡ false
+and_false true = refl
+and_false false = refl
+
+-- a number's holds are its own
+find_own : (who : ℕ) (key : LockKey) (hs : List Hold) → finite.find hold_cmp (key, who) (map (λ h. ((h.key, who), h.mode)) hs) ≡ mode_in hs key
+find_own who key [] = refl
+find_own who key (h ∷ hs) =
+    let tie : eq_by_cmp hold_cmp (key, who) (h.key, who) ≡ eq_by_cmp key_cmp key h.key = hold_ties key h.key who who ∙ (ap (λ b. eq_by_cmp key_cmp key h.key && b) (eq-eqb who who refl) ∙ and_true (eq_by_cmp key_cmp key h.key)) in
+    λ i. cond (tie i) (Some h.mode) (find_own who key hs i)
+
+find_other : (who w : ℕ) (key : LockKey) (hs : List Hold) → w ≢ who → finite.find hold_cmp (key, w) (map (λ h. ((h.key, who), h.mode)) hs) ≡ None
+find_other who w key [] ne = refl
+find_other who w key (h ∷ hs) ne = λ i. cond (numbers_apart key h.key w who ne i) (Some h.mode) (find_other who w key hs ne i)
+
+-- a number stands in the list once
+gone_after : (s : Seat) (ss : List Seat) → AreApart (s ∷ ss) → grants_of ss s.who ≡ no_grants
+gone_after s ss apart =
+    let first = All-from_recursion (λ y. nat_eq s.who y ≡ false) (map (λ s. s.who) ss) (IsDistinct-head nat_eq s.who (map (λ s. s.who) ss) apart) in
+    elim (seat_of ss s.who) as (λ o. seat_of ss s.who ≡ o → unwrap_or o no_grants ≡ no_grants) [
       | None ↦ λ _. refl
-      | Some m ↦ λ e. absurd (key_irreflexive key (above key m (mode_of-table es rs who key ∙ e)))
+      | Some g ↦ λ e.
+          let differs = found_has (λ y. nat_eq s.who y ≡ false) ss first s.who g e in
+          absurd (eqb-false s.who s.who differs refl)
     ] refl
 
-pub roomy : (es : List Entry) (rs : List Room) (who : ℕ) → 0 < room_of (table_of es rs) who → (n : ℕ) × (places_of rs who ≡ Some n) × (0 < n)
-roomy es rs who some = of (places_of rs who) refl (subst (λ n. 0 < n) (room_of-table es rs who) some)
+find_holds : (ss : List Seat) → AreApart ss → (w : ℕ) (key : LockKey) → finite.find hold_cmp (key, w) (holds_in ss) ≡ mode_in (grants_of ss w).holds key
+find_holds [] apart w key = refl
+find_holds (s ∷ ss) apart w key =
+    let rest = find_holds ss (IsDistinct-tail nat_eq s.who (map (λ s. s.who) ss) apart) w key in
+    find-append (key, w) (holds_at s) (holds_in ss)
+    ∙ elim (cases_eq w s.who) [
+      | inl e ↦
+          let none : finite.find hold_cmp (key, w) (holds_in ss) ≡ None = rest ∙ ap (λ g. mode_in g.holds key) (ap (grants_of ss) e ∙ gone_after s ss apart) in
+          ap (or_else (finite.find hold_cmp (key, w) (holds_at s))) none
+          ∙ or_none (finite.find hold_cmp (key, w) (holds_at s))
+          ∙ ap (λ v. finite.find hold_cmp (key, v) (holds_at s)) e
+          ∙ find_own s.who key s.holdings.holds
+          ∙ sym (ap (λ o. mode_in (unwrap_or o no_grants).holds key) (seat_here s ss w (eq-eqb w s.who e)))
+      | inr ne ↦
+          ap (λ o. or_else o (finite.find hold_cmp (key, w) (holds_in ss))) (find_other s.who w key s.holdings.holds ne)
+          ∙ or_other (finite.find hold_cmp (key, w) (holds_in ss))
+          ∙ rest
+          ∙ sym (ap (λ o. mode_in (unwrap_or o no_grants).holds key) (seat_past s ss w (ne_eqb w s.who ne)))
+    ]
+
+pub mode_of-table : (ss : List Seat) → AreApart ss → (who : ℕ) (key : LockKey) → mode_of (table_of ss) who key ≡ mode_in (grants_of ss who).holds key
+mode_of-table ss apart who key = get-from_entries hold_total (holds_in ss) (key, who) ∙ find_holds ss apart who key
+
+abbrev places_in : Option Grants → Option ℕ
+places_in None = None
+places_in (Some g) = Some g.places
+
+find_rooms : (ss : List Seat) (w : ℕ) → finite.find nat_cmp w (rooms_in ss) ≡ places_in (seat_of ss w)
+find_rooms [] w = refl
+find_rooms (s ∷ ss) w =
+    elim (eq_by_cmp nat_cmp w s.who) as (λ b. cond b (Some s.holdings.places) (finite.find nat_cmp w (rooms_in ss)) ≡ places_in (cond b (Some s.holdings) (seat_of ss w))) [
+      | true ↦ refl
+      | false ↦ find_rooms ss w
+    ]
+
+rooms_of-table : (ss : List Seat) (w : ℕ) → finite.get (table_of ss).rooms w ≡ places_in (seat_of ss w)
+rooms_of-table ss w = get-from_entries nat_cmp_total (rooms_in ss) w ∙ find_rooms ss w
+
+pub room_of-table : (ss : List Seat) (who : ℕ) → room_of (table_of ss) who ≡ (grants_of ss who).places
+room_of-table ss who = ap (λ o. unwrap_or o 0) (rooms_of-table ss who) ∙ of (seat_of ss who)
   where
-    of : (o : Option ℕ) → places_of rs who ≡ o → 0 < unwrap_or o 0 → (n : ℕ) × (places_of rs who ≡ Some n) × (0 < n)
-    of None e h = absurd (omega arith)
-    of (Some n) e h = (n, e, h)
+    of : (o : Option Grants) → unwrap_or (places_in o) 0 ≡ (unwrap_or o no_grants).places
+    of None = refl
+    of (Some g) = refl
 
-pub places-le : (rs : List Room) (who n : ℕ) → places_of rs who ≡ Some n → n ≤ all_places rs
-places-le [] who n is = absurd (some_none n (sym is))
-places-le (r ∷ rs) who n is =
-    let whole = sum_by-cons (λ (r : Room). r.places) r rs in
-    elim (eqb who r.who) as (λ b. eqb who r.who ≡ b → n ≤ all_places (r ∷ rs)) [
-      | true ↦ λ e. let some : Some r.places ≡ Some n = sym (place_here r rs who e) ∙ is in let same : r.places ≡ n = cc in omega arith
-      | false ↦ λ e. let rest = places-le rs who n (sym (place_past r rs who e) ∙ is) in omega arith
-    ] refl
+grants_of-seated : (who : ℕ) (g : Grants) (ss : List Seat) (w : ℕ) → grants_of (seated who g ss) w ≡ cond (eqb w who) g (grants_of ss w)
+grants_of-seated who g ss w = ap (λ o. unwrap_or o no_grants) (seat_of-seated who g ss w) ∙ of (eqb w who)
+  where
+    of : (b : Bool) → unwrap_or (cond b (Some g) (seat_of ss w)) no_grants ≡ cond b g (grants_of ss w)
+    of true = refl
+    of false = refl
 
-at_any : (es : List Entry) (i : ℕ) (d : Entry) (key : LockKey) → i < length es → (get_or es i d).key ≡ key → HoldsAt (λ e. e.key ≡ key) es i
-at_any [] i d key lt is = absurd (omega arith)
-at_any (e ∷ es) zero d key lt is = λ _. is
-at_any (e ∷ es) (suc i) d key lt is = at_any es i d key (omega arith) is
+grants_of-left : (who : ℕ) (ss : List Seat) (w : ℕ) → grants_of (left_by who ss) w ≡ cond (eqb w who) no_grants (grants_of ss w)
+grants_of-left who ss w = ap (λ o. unwrap_or o no_grants) (seat_of-left who ss w) ∙ of (eqb w who)
+  where
+    of : (b : Bool) → unwrap_or (cond b None (seat_of ss w)) no_grants ≡ cond b no_grants (grants_of ss w)
+    of true = refl
+    of false = refl
 
--- a number in the list that does not hold the key yet fits among its holders
-pub fits : (es : Vec Entry Global) (rs : SmallVec Room) (who : ℕ) (key : LockKey) → IsSound es rs → is_some (places_of rs.items who) ≡ true → mode_at es.items key who ≡ None → HasPlaceAt es.items key
-fits es rs who key sound listed none i d lt is =
-    let holders = (get_or es.items i d).holders.items in
-    let numbers : List ℕ = map (λ (h : Holder). h.who) holders in
-    let there = at_any es.items i d key lt is in
-    let found = mode_at-get es.items i d key in
-    let apart = IsDistinct-push nat_eq_equiv numbers who (All-get_or IsInline es.items i d lt sound.array.inline).apart (not_listed holders who (sym (found who sound.array.sorted lt there) ∙ none)) in
-    let here : (q : ℕ) → is_some (places_of rs.items q) ≡ true → list_any (nat_eq q) (map (λ (r : Room). r.who) rs.items) ≡ true = λ q h. sym (is_some-places_of rs.items q) ∙ h in
-    let member : (q : ℕ) → list_any (nat_eq q) (numbers ++ who ∷ []) ≡ true → list_any (nat_eq q) (map (λ (r : Room). r.who) rs.items) ≡ true = λ q h.
-    elim (or_cases (list_any (nat_eq q) numbers) (list_any (nat_eq q) (who ∷ [])) (sym (list_any-append (nat_eq q) numbers (who ∷ [])) ∙ h)) [
-      | inl a ↦ let m = listed_found holders q a in here q (sound.listed q key m.0 (mode_of-table es.items rs.items q key ∙ found q sound.array.sorted lt there ∙ m.1))
-      | inr b ↦ elim (or_cases (nat_eq q who) false b) [
-        | inl e ↦ subst (λ v. list_any (nat_eq v) (map (λ (r : Room). r.who) rs.items) ≡ true) (sym (eqb-true q who e)) (here who listed)
-        | inr f ↦ absurd (cc)
-      ]
-    ] in
-    let few = length-le_from_is_member nat_eq_equiv (numbers ++ who ∷ []) (map (λ (r : Room). r.who) rs.items) apart member in
-    let size = length-append numbers (who ∷ []) in
-    let one = length-map holders (λ (h : Holder). h.who) in
-    let all = length-map rs.items (λ (r : Room). r.who) in
-    let most = sound.few in
-    omega arith
+pub apart-seated : (who : ℕ) (g : Grants) (ss : List Seat) → AreApart ss → AreApart (seated who g ss)
+apart-seated who g ss apart =
+    elim (numbers-seated who g ss) [
+      | inl same ↦ subst (IsDistinct nat_eq) (sym same) apart
+      | inr new ↦ subst (IsDistinct nat_eq) (sym new.1) (IsDistinct-push nat_eq_equiv (map (λ s. s.who) ss) who apart new.0)
+    ]
+
+-- a number that holds a key is in the list
+pub held_seat : (o : Option Grants) (key : LockKey) (m : Mode) → mode_in (unwrap_or o no_grants).holds key ≡ Some m → (g : Grants) × (o ≡ Some g) × (mode_in g.holds key ≡ Some m)
+held_seat None key m is = absurd (some_none m (sym is))
+held_seat (Some g) key m is = (g, refl, is)
+
+-- ---- what the calls ask for
+
+pub above_all : (ss : List Seat) → AreApart ss → (who : ℕ) (key : LockKey) → IsAboveKeysOf (table_of ss) who key → All (λ h. key_cmp h.key key ≡ Less) (grants_of ss who).holds
+above_all ss apart who key above k d lt =
+    let m = mode_listed (grants_of ss who).holds k d lt in
+    above (get_or (grants_of ss who).holds k d).key m.0 (mode_of-table ss apart who (get_or (grants_of ss who).holds k d).key ∙ m.1)
+  where
+    mode_listed : (hs : List Hold) (k : ℕ) (d : Hold) → k < length hs → (m : Mode) × (mode_in hs (get_or hs k d).key ≡ Some m)
+    mode_listed [] k d lt = absurd (omega arith)
+    mode_listed (h ∷ hs) zero d lt = (h.mode, ap (λ b. cond b (Some h.mode) (mode_in hs h.key)) (key_itself h.key))
+    mode_listed (h ∷ hs) (suc k) d lt =
+        let rest = mode_listed hs k d (omega arith) in
+        elim (eq_by_cmp key_cmp (get_or hs k d).key h.key) as (λ b. (m : Mode) × (cond b (Some h.mode) (mode_in hs (get_or hs k d).key) ≡ Some m)) [
+          | true ↦ (h.mode, refl)
+          | false ↦ rest
+        ]
 
 -- ---- who is in the way
 
-pub blocks_hinder : (es : List Entry) (rs : List Room) (who : ℕ) (key : LockKey) (mode : Mode) (w : ℕ) → Blocks (table_of es rs) who key mode w → Hinders es who key mode w
-blocks_hinder es rs who key mode w b = record { apart = b.apart; held = b.held; holds = sym (mode_of-table es rs w key) ∙ b.holds; conflict = b.conflict }
+excluding_mode : (o : Option Mode) (mode : Mode) → is_excluding o mode ≡ true → (held : Mode) × (o ≡ Some held) × (are_conflicting held mode ≡ true)
+excluding_mode None mode e = absurd (cc)
+excluding_mode (Some held) mode e = (held, refl, e)
 
-pub hinders_block : (es : List Entry) (rs : List Room) (who : ℕ) (key : LockKey) (mode : Mode) (w : ℕ) → Hinders es who key mode w → Blocks (table_of es rs) who key mode w
-hinders_block es rs who key mode w h = record { apart = h.apart; held = h.held; holds = mode_of-table es rs w key ∙ h.holds; conflict = h.conflict }
+blocker_blocks : (ss : List Seat) → AreApart ss → (who : ℕ) (key : LockKey) (mode : Mode) (w : ℕ) → IsBlocker who key mode ss w → Blocks (table_of ss) who key mode w
+blocker_blocks ss apart who key mode w b =
+    let x = excluding_mode (mode_in b.grants.holds key) mode b.blocks in
+    record {
+      apart = b.apart;
+      held = x.0;
+      holds = mode_of-table ss apart w key ∙ (ap (λ o. mode_in (unwrap_or o no_grants).holds key) b.seat ∙ x.1);
+      conflict = x.2;
+    }
 
-pub least_blocks : (es : List Entry) (rs : List Room) (who : ℕ) (key : LockKey) (mode : Mode) (w : ℕ) → IsLeast (Hinders es who key mode) w → IsLeast (Blocks (table_of es rs) who key mode) w
-least_blocks es rs who key mode w h = record { here = hinders_block es rs who key mode w h.here; least = λ v b. h.least v (blocks_hinder es rs who key mode v b) }
+has_blocker : (P : ℕ → Type 0) (ss : List Seat) → AreApart ss → (who : ℕ) (key : LockKey) (mode : Mode) → All P (blockers who key mode ss) → (w : ℕ) → Blocks (table_of ss) who key mode w → P w
+has_blocker P ss apart who key mode all w b =
+    let x = held_seat (seat_of ss w) key b.held (sym (mode_of-table ss apart w key) ∙ b.holds) in
+    blocker_has who key mode P ss all w x.0 b.apart x.1 (ap (λ o. is_excluding o mode) x.2 ∙ b.conflict)
 
-pub reads_hinder : (es : List Entry) (rs : List Room) (who : ℕ) (key : LockKey) (w : ℕ) → Reads (table_of es rs) who key w → Hinders es who key Write w
-reads_hinder es rs who key w r = record { apart = r.apart; held = Read; holds = sym (mode_of-table es rs w key) ∙ r.holds; conflict = refl }
+pub least_blocks : (ss : List Seat) → AreApart ss → (who : ℕ) (key : LockKey) (mode : Mode) (w : ℕ) → IsLeastOf (blockers who key mode ss) (Some w) → IsLeast (Blocks (table_of ss) who key mode) w
+least_blocks ss apart who key mode w least = record {
+  here = blocker_blocks ss apart who key mode w (All-contains (IsBlocker who key mode ss) (blockers who key mode ss) w (all_block who key mode ss apart) least.0);
+  least = λ v b. has_blocker (λ v. w ≤ v) ss apart who key mode least.1 v b;
+}
+
+pub none_blocks : (ss : List Seat) → AreApart ss → (who : ℕ) (key : LockKey) (mode : Mode) → IsLeastOf (blockers who key mode ss) None → (w : ℕ) → ¬ (Blocks (table_of ss) who key mode w)
+none_blocks ss apart who key mode none w b =
+    has_blocker (λ _. ⊥) ss apart who key mode (subst (All (λ _. ⊥)) (sym none) (All-nil (λ _. ⊥))) w b
+
+pub reads_block : (t : Table) (who : ℕ) (key : LockKey) (w : ℕ) → Reads t who key w → Blocks t who key Write w
+reads_block t who key w r = record { apart = r.apart; held = Read; holds = r.holds; conflict = refl }
 
 -- beside a Change there are only Reads
 only_read : (m : Mode) → are_conflicting m Change ≢ true → m ≡ Read
@@ -120,16 +211,16 @@ only_read Change none = absurd (none refl)
 only_read Write none = absurd (none refl)
 only_read Read none = refl
 
-pub hinders_read : (es : List Entry) (rs : List Room) (who : ℕ) (key : LockKey) (w : ℕ) → IsConsistent (table_of es rs) → mode_of (table_of es rs) who key ≡ Some Change → Hinders es who key Write w → Reads (table_of es rs) who key w
-hinders_read es rs who key w consistent change h =
-    let there = mode_of-table es rs w key ∙ h.holds in
-    let reads = only_read h.held (λ conflict. consistent key w who h.held Change h.apart there change conflict) in
-    record { apart = h.apart; holds = there ∙ ap Some reads }
+pub least_reads : (t : Table) (who : ℕ) (key : LockKey) (w : ℕ) → IsConsistent t → mode_of t who key ≡ Some Change → IsLeast (Blocks t who key Write) w → IsLeast (Reads t who key) w
+least_reads t who key w consistent change h =
+    let b = h.here in
+    let reads = only_read b.held (λ conflict. consistent key w who b.held Change b.apart b.holds change conflict) in
+    record {
+      here = record { apart = b.apart; holds = b.holds ∙ ap Some reads };
+      least = λ v r. h.least v (reads_block t who key v r);
+    }
 
-pub least_reads : (es : List Entry) (rs : List Room) (who : ℕ) (key : LockKey) (w : ℕ) → IsConsistent (table_of es rs) → mode_of (table_of es rs) who key ≡ Some Change → IsLeast (Hinders es who key Write) w → IsLeast (Reads (table_of es rs) who key) w
-least_reads es rs who key w consistent change h = record { here = hinders_read es rs who key w consistent change h.here; least = λ v r. h.least v (reads_hinder es rs who key v r) }
-
--- ---- a hold is granted
+-- ---- a hold is granted or raised
 
 -- what is held after it was granted, or was held before
 held_cases : (holds : finite.FinMap hold_cmp Mode) (key : LockKey) (who : ℕ) (mode : Mode) (k : LockKey) (w : ℕ) (m : Mode) → finite.get (finite.insert holds (key, who) mode) (k, w) ≡ Some m → ((w ≡ who) × ((k ≡ key) × (m ≡ mode))) ⊎ (finite.get holds (k, w) ≡ Some m)
@@ -164,321 +255,319 @@ swapped Read Change = refl
 swapped Read Write = refl
 swapped Read Read = refl
 
--- the map of a table after a hold was granted
-mode_of-granted : (es fs : List Entry) (rs ss : List Room) (who : ℕ) (key : LockKey) (mode : Mode) → map_of fs ≡ finite.insert (map_of es) (key, who) mode → (w : ℕ) (k : LockKey) (m : Mode) → mode_of (table_of fs ss) w k ≡ Some m → ((w ≡ who) × ((k ≡ key) × (m ≡ mode))) ⊎ (mode_of (table_of es rs) w k ≡ Some m)
-mode_of-granted es fs rs ss who key mode became w k m is = held_cases (map_of es) key who mode k w m (ap (λ h. finite.get h (k, w)) (sym became) ∙ is)
-
-pub granted_consistent : (es fs : List Entry) (rs ss : List Room) (who : ℕ) (key : LockKey) (mode : Mode) → IsConsistent (table_of es rs) → HoldGives es who key mode Held fs → IsConsistent (table_of fs ss)
-granted_consistent es fs rs ss who key mode consistent (free, became) k v w m n ne here there conflict =
-    elim (mode_of-granted es fs rs ss who key mode became v k m here) [
-      | inl a ↦ elim (mode_of-granted es fs rs ss who key mode became w k n there) [
+pub granted_consistent : (s t : Table) (who : ℕ) (key : LockKey) (mode : Mode) → IsConsistent s → ((w : ℕ) → ¬ (Blocks s who key mode w)) → t.holds ≡ finite.insert s.holds (key, who) mode → IsConsistent t
+granted_consistent s t who key mode consistent free became k v w m n ne here there conflict =
+    let old : (w : ℕ) (n : Mode) → mode_of t w k ≡ Some n → ((w ≡ who) × ((k ≡ key) × (n ≡ mode))) ⊎ (mode_of s w k ≡ Some n) = λ w n is. held_cases s.holds key who mode k w n (ap (λ h. finite.get h (k, w)) (sym became) ∙ is) in
+    elim (old v m here) [
+      | inl a ↦ elim (old w n there) [
         | inl b ↦ ne (a.0 ∙ sym b.0)
-        | inr old ↦ free w (record {
+        | inr is ↦ free w (record {
           apart = λ e. ne (a.0 ∙ sym e);
           held = n;
-          holds = sym (mode_of-table es rs w key) ∙ (ap (λ x. mode_of (table_of es rs) w x) (sym a.1.0) ∙ old);
+          holds = ap (λ x. mode_of s w x) (sym a.1.0) ∙ is;
           conflict = swapped n mode ∙ (ap (λ x. are_conflicting x n) (sym a.1.1) ∙ conflict);
         })
       ]
-      | inr old ↦ elim (mode_of-granted es fs rs ss who key mode became w k n there) [
+      | inr is ↦ elim (old w n there) [
         | inl b ↦ free v (record {
           apart = λ e. ne (e ∙ sym b.0);
           held = m;
-          holds = sym (mode_of-table es rs v key) ∙ (ap (λ x. mode_of (table_of es rs) v x) (sym b.1.0) ∙ old);
+          holds = ap (λ x. mode_of s v x) (sym b.1.0) ∙ is;
           conflict = ap (are_conflicting m) (sym b.1.1) ∙ conflict;
         })
-        | inr older ↦ consistent k v w m n ne old older conflict
+        | inr older ↦ consistent k v w m n ne is older conflict
       ]
     ]
 
--- a hold of another number stays
-mode_of-other : (es fs : List Entry) (rs ss : List Room) (who : ℕ) (key : LockKey) (mode : Mode) → map_of fs ≡ finite.insert (map_of es) (key, who) mode → (w : ℕ) (k : LockKey) → w ≢ who → mode_of (table_of fs ss) w k ≡ mode_of (table_of es rs) w k
-mode_of-other es fs rs ss who key mode became w k ne = ap (λ h. finite.get h (k, w)) became ∙ get-insert_other (map_of es) key who mode k w ne
+-- the number holds one more key, or a key in another mode
+pub holds_grown : (ss ts : List Seat) → AreApart ss → (who : ℕ) (key : LockKey) (mode : Mode) (g : Grants) → ((k : LockKey) → mode_in g.holds k ≡ cond (eq_by_cmp key_cmp k key) (Some mode) (mode_in (grants_of ss who).holds k)) → ts ≡ seated who g ss → (table_of ts).holds ≡ finite.insert (table_of ss).holds (key, who) mode
+holds_grown ss ts apart who key mode g modes is =
+    same_map hold_total hold_exact (table_of ts).holds (finite.insert (table_of ss).holds (key, who) mode) (λ q. at q.0 q.1)
+  where
+    pick : (k : LockKey) (w : ℕ) (b : Bool) → eqb w who ≡ b → mode_in (cond b g (grants_of ss w)).holds k ≡ cond (eq_by_cmp key_cmp k key && b) (Some mode) (mode_in (grants_of ss w).holds k)
+    pick k w true e =
+        subst (λ v. mode_in g.holds k ≡ cond (eq_by_cmp key_cmp k key && true) (Some mode) (mode_in (grants_of ss v).holds k)) (sym (eqb-true w who e))
+        (modes k ∙ ap (λ b. cond b (Some mode) (mode_in (grants_of ss who).holds k)) (sym (and_true (eq_by_cmp key_cmp k key))))
+    pick k w false e = ap (λ b. cond b (Some mode) (mode_in (grants_of ss w).holds k)) (sym (and_false (eq_by_cmp key_cmp k key)))
 
--- whoever was in the list still is, holds a key or may take one
-granted_used : (es fs : List Entry) (rs ss : List Room) (who : ℕ) (key : LockKey) (mode : Mode) → map_of fs ≡ finite.insert (map_of es) (key, who) mode → ((w : ℕ) → w ≢ who → places_of ss w ≡ places_of rs w) → ((w : ℕ) → is_some (places_of rs w) ≡ true → IsListed (table_of es rs) w) → (w : ℕ) → is_some (places_of ss w) ≡ true → IsListed (table_of fs ss) w
-granted_used es fs rs ss who key mode became same used w listed =
-    elim (cases_eq w who) [
-      | inl e ↦ inr (key, mode, ap (λ h. finite.get h (key, w)) became ∙ (ap (λ v. finite.get (finite.insert (map_of es) (key, who) mode) (key, v)) e ∙ get-insert_same (map_of es) (key, who) mode))
-      | inr ne ↦ elim (used w (ap is_some (sym (same w ne)) ∙ listed)) [
-        | inl some ↦ inl (subst (λ n. 0 < n) (room_of-table es rs w ∙ (ap (λ o. unwrap_or o 0) (sym (same w ne)) ∙ sym (room_of-table fs ss w))) some)
-        | inr held ↦ inr (held.0, held.1, mode_of-other es fs rs ss who key mode became w held.0 ne ∙ held.2)
-      ]
+    at : (k : LockKey) (w : ℕ) → finite.get (table_of ts).holds (k, w) ≡ finite.get (finite.insert (table_of ss).holds (key, who) mode) (k, w)
+    at k w =
+        ap (λ l. mode_of (table_of l) w k) is
+        ∙ mode_of-table (seated who g ss) (apart-seated who g ss apart) w k
+        ∙ ap (λ x. mode_in x.holds k) (grants_of-seated who g ss w)
+        ∙ pick k w (eqb w who) refl
+        ∙ ap (λ b. cond b (Some mode) (mode_in (grants_of ss w).holds k)) (sym (hold_ties k key w who))
+        ∙ ap (cond (eq_by_cmp hold_cmp (k, w) (key, who)) (Some mode)) (sym (mode_of-table ss apart w k))
+        ∙ sym (get-insert hold_total (table_of ss).holds (key, who) mode (k, w))
+
+-- what other numbers hold and may take stays
+pub other_mode : (ss ts : List Seat) → AreApart ss → (who : ℕ) (g : Grants) → ts ≡ seated who g ss → (w : ℕ) → w ≢ who → (k : LockKey) → mode_of (table_of ts) w k ≡ mode_of (table_of ss) w k
+other_mode ss ts apart who g is w ne k =
+    ap (λ l. mode_of (table_of l) w k) is
+    ∙ mode_of-table (seated who g ss) (apart-seated who g ss apart) w k
+    ∙ ap (λ x. mode_in x.holds k) (grants_of-seated who g ss w ∙ ap (λ b. cond b g (grants_of ss w)) (ne_eqb w who ne))
+    ∙ sym (mode_of-table ss apart w k)
+
+pub other_room : (ss ts : List Seat) (who : ℕ) (g : Grants) → ts ≡ seated who g ss → (w : ℕ) → w ≢ who → room_of (table_of ts) w ≡ room_of (table_of ss) w
+other_room ss ts who g is w ne =
+    ap (λ l. room_of (table_of l) w) is
+    ∙ room_of-table (seated who g ss) w
+    ∙ ap (λ x. x.places) (grants_of-seated who g ss w ∙ ap (λ b. cond b g (grants_of ss w)) (ne_eqb w who ne))
+    ∙ sym (room_of-table ss w)
+
+pub own_grants : (ss ts : List Seat) (who : ℕ) (g : Grants) → ts ≡ seated who g ss → grants_of ts who ≡ g
+own_grants ss ts who g is = ap (λ l. grants_of l who) is ∙ grants_of-seated who g ss who ∙ ap (λ b. cond b g (grants_of ss who)) (eq-eqb who who refl)
+
+-- a list of numbers stays sound where one has other keys or places
+pub seated_sound : (ss ts : SmallVec Seat) (who : ℕ) (g : Grants) → IsSound ss → ts.items ≡ seated who g ss.items → ts.capacity ≡ ss.capacity → (seat_of ss.items who ≡ None → HasRoomFor ss 1) → IsListed (table_of ts.items) who → IsConsistent (table_of ts.items) → IsSound ts
+seated_sound ss ts who g sound is inline fits listed consistent = record {
+  apart = subst AreApart (sym is) (apart-seated who g ss.items sound.apart);
+  few = few;
+  inline = inline ∙ sound.inline;
+  used = λ w here. elim (cases_eq w who) [
+    | inl e ↦ subst (IsListed (table_of ts.items)) (sym e) listed
+    | inr ne ↦ elim (sound.used w (ap is_some (sym (seat_of-seated who g ss.items w ∙ ap (λ b. cond b (Some g) (seat_of ss.items w)) (ne_eqb w who ne))) ∙ (ap (λ l. is_some (seat_of l w)) (sym is) ∙ here))) [
+      | inl some ↦ inl (subst (λ n. 0 < n) (sym (other_room ss.items ts.items who g is w ne)) some)
+      | inr held ↦ inr (held.0, held.1, other_mode ss.items ts.items sound.apart who g is w ne held.0 ∙ held.2)
     ]
+  ];
+  consistent = consistent;
+}
+  where
+    none_of : (o : Option Grants) → is_some o ≡ false → o ≡ None
+    none_of None e = refl
+    none_of (Some n) e = absurd (cc)
 
-pub asked_sound : (es fs : Vec Entry Global) (rs ss : SmallVec Room) (who : ℕ) (key : LockKey) (mode : Mode) (n : ℕ) → IsSound es rs → HoldGives es.items who key mode Held fs.items → IsKeyArray fs.items → vec_len fs ≤ vec_len es + 1 → vec_capacity es ≤ vec_capacity fs → ss.items ≡ spent who rs.items → ss.capacity ≡ rs.capacity → places_of rs.items who ≡ Some n → 0 < n → IsSound fs ss
-asked_sound es fs rs ss who key mode n sound gives array len cap items inline is some =
-    let became : ss.items ≡ changed (λ n. n - 1) who rs.items = items ∙ spent_is who rs.items in
-    let numbers : map (λ (r : Room). r.who) ss.items ≡ map (λ (r : Room). r.who) rs.items = ap (map (λ (r : Room). r.who)) became ∙ numbers-changed (λ n. n - 1) who rs.items in
-    let here : (w : ℕ) → is_some (places_of ss.items w) ≡ is_some (places_of rs.items w) = λ w. is_some-places_of ss.items w ∙ (ap (list_any (nat_eq w)) numbers ∙ sym (is_some-places_of rs.items w)) in
-    let size = ap length became in
-    let long = length-changed (λ n. n - 1) who rs.items in
-    let total = ap all_places became in
-    let less = all_places-changed (λ n. n - 1) who rs.items n is in
-    let memory = sound.memory in
-    let few = sound.few in
-    record {
-      array = array;
-      apart = subst (IsDistinct nat_eq) (sym numbers) sound.apart;
-      few = omega arith;
-      inline = inline ∙ sound.inline;
-      listed = λ w k m held. here w ∙ elim (mode_of-granted es.items fs.items rs.items ss.items who key mode gives.1 w k m held) [
-        | inl a ↦ ap is_some (ap (places_of rs.items) a.0 ∙ is)
-        | inr old ↦ sound.listed w k m old
-      ];
-      used = granted_used es.items fs.items rs.items ss.items who key mode gives.1 (λ w ne. ap (λ l. places_of l w) became ∙ places_of-changed_other (λ n. n - 1) who rs.items w ne) sound.used;
-      consistent = granted_consistent es.items fs.items rs.items ss.items who key mode sound.consistent gives;
-      memory = omega arith;
-    }
+    few : length ts.items ≤ MAX_NUMBERS
+    few =
+        let size = ap length is in
+        let now = length-map (seated who g ss.items) (λ (s : Seat). s.who) in
+        let old = length-map ss.items (λ (s : Seat). s.who) in
+        let most = sound.few in
+        elim (numbers-seated who g ss.items) [
+          | inl same ↦ let count = ap length same in omega arith
+          | inr new ↦
+              let count = ap length new.1 in
+              let one = length-append (map (λ (s : Seat). s.who) ss.items) (who ∷ []) in
+              let cap = sound.inline in
+              let room = fits (none_of (seat_of ss.items who) (is_some-seat_of ss.items who ∙ new.0)) in
+              omega arith
+        ]
 
-pub asked_gains : (es fs : List Entry) (rs ss : List Room) (who : ℕ) (key : LockKey) (mode : Mode) (n : ℕ) → map_of fs ≡ finite.insert (map_of es) (key, who) mode → ss ≡ spent who rs → places_of rs who ≡ Some n → 0 < n → Gains (table_of es rs) (table_of fs ss) who key mode
-asked_gains es fs rs ss who key mode n became items is some =
-    let changes : ss ≡ changed (λ n. n - 1) who rs = items ∙ spent_is who rs in
-    let new : room_of (table_of fs ss) who ≡ n - 1 = room_of-table fs ss who ∙ (ap (λ l. unwrap_or (places_of l who) 0) changes ∙ ap (λ o. unwrap_or o 0) (places_of-changed_same (λ n. n - 1) who rs n is)) in
-    let old : room_of (table_of es rs) who ≡ n = room_of-table es rs who ∙ ap (λ o. unwrap_or o 0) is in
+-- ---- a number asks
+
+pub asked_modes : (ss : List Seat) → AreApart ss → (who : ℕ) (key : LockKey) (mode : Mode) → IsAboveKeysOf (table_of ss) who key → (k : LockKey) → mode_in (granted key mode (grants_of ss who)).holds k ≡ cond (eq_by_cmp key_cmp k key) (Some mode) (mode_in (grants_of ss who).holds k)
+asked_modes ss apart who key mode above k = mode_granted (grants_of ss who).holds key mode k (above_all ss apart who key above)
+
+-- a number with places is in the list
+pub seated_there : (ss : List Seat) (who : ℕ) → 0 < room_of (table_of ss) who → seat_of ss who ≢ None
+seated_there ss who some none =
+    let zero_room : room_of (table_of ss) who ≡ 0 = room_of-table ss who ∙ ap (λ o. (unwrap_or o no_grants).places) none in
+    omega arith
+
+pub asked_gains : (ss ts : List Seat) → AreApart ss → (who : ℕ) (key : LockKey) (mode : Mode) → 0 < room_of (table_of ss) who → IsAboveKeysOf (table_of ss) who key → ts ≡ with_hold who key mode ss → Gains (table_of ss) (table_of ts) who key mode
+asked_gains ss ts apart who key mode some above is =
+    let old = room_of-table ss who in
+    let new : room_of (table_of ts) who ≡ (grants_of ss who).places - 1 = room_of-table ts who ∙ ap (λ g. g.places) (own_grants ss ts who (granted key mode (grants_of ss who)) is) in
     record {
-      holds = became;
+      holds = holds_grown ss ts apart who key mode (granted key mode (grants_of ss who)) (asked_modes ss apart who key mode above) is;
       room = omega arith;
-      others = λ w ne. room_of-table fs ss w ∙ (ap (λ l. unwrap_or (places_of l w) 0) changes ∙ (ap (λ o. unwrap_or o 0) (places_of-changed_other (λ n. n - 1) who rs w ne) ∙ sym (room_of-table es rs w)));
+      others = λ w ne. other_room ss ts who (granted key mode (grants_of ss who)) is w ne;
     }
 
--- ---- a hold is raised
+pub asked_sound : (ss ts : SmallVec Seat) (who : ℕ) (key : LockKey) (mode : Mode) → IsSound ss → 0 < room_of (table_of ss.items) who → Gains (table_of ss.items) (table_of ts.items) who key mode → ts.items ≡ with_hold who key mode ss.items → ts.capacity ≡ ss.capacity → ((w : ℕ) → ¬ (Blocks (table_of ss.items) who key mode w)) → IsSound ts
+asked_sound ss ts who key mode sound some gains is inline free =
+    seated_sound ss ts who (granted key mode (grants_of ss.items who)) sound is inline
+    (λ none. absurd (seated_there ss.items who some none))
+    (inr (key, mode, ap (λ h. finite.get h (key, who)) gains.holds ∙ get-insert_same (table_of ss.items).holds (key, who) mode))
+    (granted_consistent (table_of ss.items) (table_of ts.items) who key mode sound.consistent free gains.holds)
 
-pub raised_sound : (es fs : Vec Entry Global) (rs : SmallVec Room) (who : ℕ) (key : LockKey) (answer : Asked) (m : Mode) → IsSound es rs → mode_of (table_of es.items rs.items) who key ≡ Some m → HoldGives es.items who key Write answer fs.items → IsKeyArray fs.items → vec_len fs ≡ vec_len es → vec_capacity es ≤ vec_capacity fs → IsSound fs rs
-raised_sound es fs rs who key (Busy w) m sound held gives array len cap =
-    let same : table_of fs.items rs.items ≡ table_of es.items rs.items = ap (λ l. table_of l rs.items) gives.1 in
-    let memory = sound.memory in
-    record {
-      array = array;
-      apart = sound.apart;
-      few = sound.few;
-      inline = sound.inline;
-      listed = λ v k n h. sound.listed v k n (ap (λ t. mode_of t v k) (sym same) ∙ h);
-      used = λ v h. subst (λ t. IsListed t v) (sym same) (sound.used v h);
-      consistent = subst IsConsistent (sym same) sound.consistent;
-      memory = omega arith;
-    }
-raised_sound es fs rs who key Held m sound held gives array len cap =
-    let memory = sound.memory in
-    record {
-      array = array;
-      apart = sound.apart;
-      few = sound.few;
-      inline = sound.inline;
-      listed = λ w k n h. elim (mode_of-granted es.items fs.items rs.items rs.items who key Write gives.1 w k n h) [
-        | inl a ↦ ap (λ v. is_some (places_of rs.items v)) a.0 ∙ sound.listed who key m held
-        | inr old ↦ sound.listed w k n old
-      ];
-      used = granted_used es.items fs.items rs.items rs.items who key Write gives.1 (λ w ne. refl) sound.used;
-      consistent = granted_consistent es.items fs.items rs.items rs.items who key Write sound.consistent gives;
-      memory = omega arith;
-    }
+-- ---- a number raises a hold
 
-pub raised_gives : (es fs : List Entry) (rs : List Room) (who : ℕ) (key : LockKey) (answer : Asked) → IsConsistent (table_of es rs) → mode_of (table_of es rs) who key ≡ Some Change → HoldGives es who key Write answer fs → RaiseGives (table_of es rs) who key answer (table_of fs rs)
-raised_gives es fs rs who key (Busy w) consistent held gives = (least_reads es rs who key w consistent held gives.0, ap (λ l. table_of l rs) gives.1)
-raised_gives es fs rs who key Held consistent held gives = ((λ w r. gives.0 w (reads_hinder es rs who key w r)), record { holds = gives.1; rooms = refl })
+pub raised_rises : (ss ts : List Seat) → AreApart ss → (who : ℕ) (key : LockKey) → mode_of (table_of ss) who key ≡ Some Change → RaisesAt who key ss ts → Rises (table_of ss) (table_of ts) who key
+raised_rises ss ts apart who key held r = record {
+  holds = holds_grown ss ts apart who key Write r.grants r.raised.modes r.seats;
+  rooms = same_map nat_cmp_total nat_cmp-IsAntisymmetric (table_of ts).rooms (table_of ss).rooms (λ w.
+      rooms_of-table ts w ∙ (ap (λ l. places_in (seat_of l w)) r.seats ∙ (ap places_in (seat_of-seated who r.grants ss w) ∙ (stays w (eqb w who) refl ∙ sym (rooms_of-table ss w)))));
+}
+  where
+    there : (g : Grants) × (seat_of ss who ≡ Some g) × (mode_in g.holds key ≡ Some Change)
+    there = held_seat (seat_of ss who) key Change (sym (mode_of-table ss apart who key) ∙ held)
+
+    stays : (w : ℕ) (b : Bool) → eqb w who ≡ b → places_in (cond b (Some r.grants) (seat_of ss w)) ≡ places_in (seat_of ss w)
+    stays w false e = refl
+    stays w true e =
+        ap Some (r.raised.places ∙ ap (λ o. (unwrap_or o no_grants).places) there.1)
+        ∙ sym (ap places_in (ap (seat_of ss) (eqb-true w who e) ∙ there.1))
+
+pub raised_sound : (ss ts : SmallVec Seat) (who : ℕ) (key : LockKey) → IsSound ss → mode_of (table_of ss.items) who key ≡ Some Change → Rises (table_of ss.items) (table_of ts.items) who key → RaisesAt who key ss.items ts.items → ts.capacity ≡ ss.capacity → ((w : ℕ) → ¬ (Blocks (table_of ss.items) who key Write w)) → IsSound ts
+raised_sound ss ts who key sound held rises r inline free =
+    seated_sound ss ts who r.grants sound r.seats inline
+    (λ none. absurd (some_none Change (sym (sym (mode_of-table ss.items sound.apart who key ∙ ap (λ o. mode_in (unwrap_or o no_grants).holds key) none) ∙ held))))
+    (inr (key, Write, ap (λ h. finite.get h (key, who)) rises.holds ∙ get-insert_same (table_of ss.items).holds (key, who) Write))
+    (granted_consistent (table_of ss.items) (table_of ts.items) who key Write sound.consistent free rises.holds)
+
+-- ---- a number gets room
+
+pub seat_left : (ss : SmallVec Seat) (who : ℕ) → IsSound ss → HasSeatFor (table_of ss.items) who → seat_of ss.items who ≡ None → HasRoomFor ss 1
+seat_left ss who sound seat none =
+    let numbers : List ℕ = map (λ (s : Seat). s.who) ss.items in
+    let each : (w : ℕ) → list_any (nat_eq w) numbers ≡ true → (w ≢ who) × IsListed (table_of ss.items) w = λ w there. (
+      (λ e. let both : is_some (seat_of ss.items who) ≡ true = is_some-seat_of ss.items who ∙ subst (λ v. list_any (nat_eq v) numbers ≡ true) e there in let gone = ap is_some none in absurd (cc)),
+      sound.used w (is_some-seat_of ss.items w ∙ there),
+    ) in
+    let few = seat numbers sound.apart (All-weaker (λ w. list_any (nat_eq w) numbers ≡ true) (λ w. (w ≢ who) × IsListed (table_of ss.items) w) each numbers (All-is_member nat_eq_equiv numbers)) in
+    let size = length-map ss.items (λ (s : Seat). s.who) in
+    let inline = sound.inline in
+    omega arith
+
+room_gains : (ss ts : List Seat) → AreApart ss → (who count : ℕ) → ts ≡ seated who (roomier count (grants_of ss who)) ss → GainsRoom (table_of ss) (table_of ts) who count
+room_gains ss ts apart who count is = record {
+  holds = same_map hold_total hold_exact (table_of ts).holds (table_of ss).holds (λ q. at q.0 q.1);
+  room = room_of-table ts who ∙ (ap (λ g. g.places) (own_grants ss ts who (roomier count (grants_of ss who)) is) ∙ ap (λ n. n + count) (sym (room_of-table ss who)));
+  others = λ w ne. other_room ss ts who (roomier count (grants_of ss who)) is w ne;
+}
+  where
+    at : (k : LockKey) (w : ℕ) → mode_of (table_of ts) w k ≡ mode_of (table_of ss) w k
+    at k w = elim (cases_eq w who) [
+      | inr ne ↦ other_mode ss ts apart who (roomier count (grants_of ss who)) is w ne k
+      | inl e ↦
+          ap (λ v. mode_of (table_of ts) v k) e
+          ∙ mode_of-table ts (subst AreApart (sym is) (apart-seated who (roomier count (grants_of ss who)) ss apart)) who k
+          ∙ ap (λ g. mode_in g.holds k) (own_grants ss ts who (roomier count (grants_of ss who)) is)
+          ∙ sym (mode_of-table ss apart who k)
+          ∙ ap (λ v. mode_of (table_of ss) v k) (sym e)
+    ]
+
+pub same_consistent : (s t : Table) → IsConsistent s → t.holds ≡ s.holds → IsConsistent t
+same_consistent s t consistent same k v w m n ne here there =
+    consistent k v w m n ne (ap (λ h. finite.get h (k, v)) (sym same) ∙ here) (ap (λ h. finite.get h (k, w)) (sym same) ∙ there)
+
+room_sound : (ss ts : SmallVec Seat) (who count : ℕ) → IsSound ss → HasSeatFor (table_of ss.items) who → 0 < count → GainsRoom (table_of ss.items) (table_of ts.items) who count → ts.items ≡ seated who (roomier count (grants_of ss.items who)) ss.items → ts.capacity ≡ ss.capacity → IsSound ts
+room_sound ss ts who count sound seat some gains is inline =
+    let room = gains.room in
+    seated_sound ss ts who (roomier count (grants_of ss.items who)) sound is inline
+    (λ none. seat_left ss who sound seat none)
+    (inl (omega arith))
+    (same_consistent (table_of ss.items) (table_of ts.items) sound.consistent gains.holds)
+
+sound_still : (ss ts : SmallVec Seat) → IsSound ss → ts.items ≡ ss.items → ts.capacity ≡ ss.capacity → IsSound ts
+sound_still ss ts sound items capacity =
+    let same : ts ≡ ss = λ i. record { items = items i; capacity = capacity i } in
+    subst IsSound (sym same) sound
+
+-- what a call for room does, and that it keeps
+pub room_given : (ss ts : SmallVec Seat) (who count : ℕ) → IsSound ss → HasSeatFor (table_of ss.items) who → ts.items ≡ with_places who count ss.items → ts.capacity ≡ ss.capacity → GainsRoom (table_of ss.items) (table_of ts.items) who count × IsSound ts
+room_given ss ts who count sound seat is inline =
+    elim (cases_eq count 0) [
+      | inl none ↦
+          let stays : ts.items ≡ ss.items = is ∙ ap (λ b. cond b ss.items (seated who (roomier count (grants_of ss.items who)) ss.items)) (eq-eqb count 0 none) in
+          let room = ap (λ l. room_of (table_of l) who) stays in (
+            record {
+              holds = ap (λ l. (table_of l).holds) stays;
+              room = omega arith;
+              others = λ w ne. ap (λ l. room_of (table_of l) w) stays;
+            },
+            sound_still ss ts sound stays inline,
+          )
+      | inr ne ↦
+          let grows : ts.items ≡ seated who (roomier count (grants_of ss.items who)) ss.items = is ∙ ap (λ b. cond b ss.items (seated who (roomier count (grants_of ss.items who)) ss.items)) (ne_eqb count 0 ne) in
+          let gains = room_gains ss.items ts.items sound.apart who count grows in
+          (gains, room_sound ss ts who count sound seat (some count ne) gains grows inline)
+    ]
+  where
+    some : (n : ℕ) → n ≢ 0 → 0 < n
+    some zero ne = absurd (ne refl)
+    some (suc n) ne = omega arith
+
+-- the call succeeded or changed nothing
+pub room_sound_always : {T E : Type 0} (r : Result T E) (ss ts : SmallVec Seat) (who count : ℕ) → IsSound ss → HasSeatFor (table_of ss.items) who → OnOk r (ts.items ≡ with_places who count ss.items) → OnErr r (ts.items ≡ ss.items) → ts.capacity ≡ ss.capacity → IsSound ts
+room_sound_always (Ok x) ss ts who count sound seat ok err inline = (room_given ss ts who count sound seat ok inline).1
+room_sound_always (Err x) ss ts who count sound seat ok err inline = sound_still ss ts sound err inline
 
 -- ---- a number leaves
 
-pub left_is : (es fs : List Entry) (rs ss : List Room) (who : ℕ) → fs ≡ released who es → ss ≡ left_by who rs → Leaves (table_of es rs) (table_of fs ss) who
-left_is es fs rs ss who gone forgot = record {
-  holds = ap map_of gone ∙ map_of-released who es;
-  rooms = same_map nat_cmp_total nat_cmp-IsAntisymmetric (finite.from_entries (rooms_in ss)) (finite.remove (finite.from_entries (rooms_in rs)) who) (λ w.
-      get-from_entries nat_cmp_total (rooms_in ss) w
-      ∙ (ap (λ l. places_of l w) forgot ∙ (places_of-left who rs w ∙ (turned w ∙ sym (get-remove nat_cmp_total (finite.from_entries (rooms_in rs)) who w ∙ ap (cond (eq_by_cmp nat_cmp w who) None) (get-from_entries nat_cmp_total (rooms_in rs) w))))));
+pub left_is : (ss ts : List Seat) → AreApart ss → (who : ℕ) → ts ≡ left_by who ss → Leaves (table_of ss) (table_of ts) who
+left_is ss ts apart who is = record {
+  holds = same_map hold_total hold_exact (table_of ts).holds (finite.retain_keys (table_of ss).holds (λ hold. not (hold.1 == who))) (λ q. at q.0 q.1);
+  rooms = same_map nat_cmp_total nat_cmp-IsAntisymmetric (table_of ts).rooms (finite.remove (table_of ss).rooms who) (λ w.
+      rooms_of-table ts w
+      ∙ (ap (λ l. places_in (seat_of l w)) is ∙ (ap places_in (seat_of-left who ss w) ∙ (gone (eqb w who) (seat_of ss w)
+      ∙ (ap (λ b. cond b None (places_in (seat_of ss w))) (sym (nat_ties w who))
+      ∙ sym (get-remove nat_cmp_total (table_of ss).rooms who w ∙ ap (cond (eq_by_cmp nat_cmp w who) None) (rooms_of-table ss w)))))));
 }
   where
-    both : (b : Bool) (o : Option ℕ) → cond (not b) o None ≡ cond b None o
-    both true o = refl
-    both false o = refl
+    gone : (b : Bool) (o : Option Grants) → places_in (cond b None o) ≡ cond b None (places_in o)
+    gone true o = refl
+    gone false o = refl
 
-    turned : (w : ℕ) → cond (not (w == who)) (places_of rs w) None ≡ cond (eq_by_cmp nat_cmp w who) None (places_of rs w)
-    turned w = both (w == who) (places_of rs w) ∙ ap (λ b. cond b None (places_of rs w)) (sym (nat_ties w who))
+    pick : (k : LockKey) (b : Bool) (g : Grants) → mode_in (cond b no_grants g).holds k ≡ cond (not b) (mode_in g.holds k) None
+    pick k true g = refl
+    pick k false g = refl
 
--- what is held was held by another
-mode_of-left : (es fs : List Entry) (rs ss : List Room) (who : ℕ) → fs ≡ released who es → (w : ℕ) (k : LockKey) → mode_of (table_of fs ss) w k ≡ cond (not (w == who)) (mode_of (table_of es rs) w k) None
-mode_of-left es fs rs ss who gone w k = ap (λ l. finite.get (map_of l) (k, w)) gone ∙ (ap (λ h. finite.get h (k, w)) (map_of-released who es) ∙ get-left (map_of es) who (k, w))
+    at : (k : LockKey) (w : ℕ) → mode_of (table_of ts) w k ≡ finite.get (finite.retain_keys (table_of ss).holds (λ hold. not (hold.1 == who))) (k, w)
+    at k w =
+        ap (λ l. mode_of (table_of l) w k) is
+        ∙ mode_of-table (left_by who ss) (apart-left who ss apart) w k
+        ∙ ap (λ g. mode_in g.holds k) (grants_of-left who ss w)
+        ∙ pick k (eqb w who) (grants_of ss w)
+        ∙ ap (λ o. cond (not (w == who)) o None) (sym (mode_of-table ss apart w k))
+        ∙ sym (get-left (table_of ss).holds who (k, w))
 
 kept_some : (b : Bool) (o : Option Mode) (m : Mode) → cond (not b) o None ≡ Some m → (b ≡ false) × (o ≡ Some m)
 kept_some true o m is = absurd (some_none m (sym is))
 kept_some false o m is = (refl, is)
 
-kept_is_some : (b : Bool) (o : Option ℕ) → is_some (cond (not b) o None) ≡ true → (b ≡ false) × (is_some o ≡ true)
-kept_is_some true o is = absurd (cc)
-kept_is_some false o is = (refl, is)
+pub left_consistent : (s t : Table) (who : ℕ) → Leaves s t who → IsConsistent s → IsConsistent t
+left_consistent s t who leaves consistent k v w m n ne here there =
+    let old : (w : ℕ) (m : Mode) → mode_of t w k ≡ Some m → mode_of s w k ≡ Some m = λ w m is. (kept_some (w == who) (mode_of s w k) m (sym (ap (λ h. finite.get h (k, w)) leaves.holds ∙ get-left s.holds who (k, w)) ∙ is)).1 in
+    consistent k v w m n ne (old v m here) (old w n there)
 
-pub left_consistent : (es fs : List Entry) (rs ss : List Room) (who : ℕ) → fs ≡ released who es → IsConsistent (table_of es rs) → IsConsistent (table_of fs ss)
-left_consistent es fs rs ss who gone consistent k v w m n ne here there =
-    consistent k v w m n ne (kept_some (v == who) (mode_of (table_of es rs) v k) m (sym (mode_of-left es fs rs ss who gone v k) ∙ here)).1 (kept_some (w == who) (mode_of (table_of es rs) w k) n (sym (mode_of-left es fs rs ss who gone w k) ∙ there)).1
-
-pub left_sound : (es fs : Vec Entry Global) (rs ss : SmallVec Room) (who : ℕ) → IsSound es rs → fs.items ≡ released who es.items → vec_len fs ≤ vec_len es → vec_capacity fs ≡ vec_capacity es → ss.items ≡ left_by who rs.items → ss.capacity ≡ rs.capacity → IsSound fs ss
-left_sound es fs rs ss who sound gone len cap forgot inline =
-    let size = ap length forgot in
-    let fewer = length-left who rs.items in
-    let total = ap all_places forgot in
-    let less = all_places-left who rs.items in
-    let memory = sound.memory in
+pub left_sound : (ss ts : SmallVec Seat) (who : ℕ) → IsSound ss → Leaves (table_of ss.items) (table_of ts.items) who → ts.items ≡ left_by who ss.items → ts.capacity ≡ ss.capacity → IsSound ts
+left_sound ss ts who sound leaves is inline =
+    let size = ap length is in
+    let fewer = length-left who ss.items in
     let few = sound.few in
-    let places : (w : ℕ) → places_of ss.items w ≡ cond (not (w == who)) (places_of rs.items w) None = λ w. ap (λ l. places_of l w) forgot ∙ places_of-left who rs.items w in
-    let stays : (w : ℕ) → (w == who) ≡ false → places_of ss.items w ≡ places_of rs.items w = λ w e. places w ∙ ap (λ b. cond (not b) (places_of rs.items w) None) e in
     record {
-      array = subst IsKeyArray (sym gone) (array-released who es.items sound.array);
-      apart = subst (λ l. IsDistinct nat_eq (map (λ (r : Room). r.who) l)) (sym forgot) (apart-left who rs.items sound.apart);
+      apart = subst AreApart (sym is) (apart-left who ss.items sound.apart);
       few = omega arith;
       inline = inline ∙ sound.inline;
-      listed = λ w k m held.
-          let old = kept_some (w == who) (mode_of (table_of es.items rs.items) w k) m (sym (mode_of-left es.items fs.items rs.items ss.items who gone w k) ∙ held) in
-          ap is_some (stays w old.0) ∙ sound.listed w k m old.1;
       used = λ w here.
-          let old = kept_is_some (w == who) (places_of rs.items w) (ap is_some (sym (places w)) ∙ here) in
-          elim (sound.used w old.1) [
-            | inl some ↦ inl (subst (λ n. 0 < n) (room_of-table es.items rs.items w ∙ (ap (λ o. unwrap_or o 0) (sym (stays w old.0)) ∙ sym (room_of-table fs.items ss.items w))) some)
-            | inr held ↦ inr (held.0, held.1, mode_of-left es.items fs.items rs.items ss.items who gone w held.0 ∙ (ap (λ b. cond (not b) (mode_of (table_of es.items rs.items) w held.0) None) old.0 ∙ held.2))
+          let kept = stays w (eqb w who) refl here in
+          elim (sound.used w kept.1) [
+            | inl some ↦ inl (subst (λ n. 0 < n) (sym (ap (λ l. room_of (table_of l) w) is ∙ (room_of-table (left_by who ss.items) w ∙ (ap (λ g. g.places) (same w kept.0) ∙ sym (room_of-table ss.items w))))) some)
+            | inr held ↦ inr (held.0, held.1, ap (λ l. mode_of (table_of l) w held.0) is ∙ (mode_of-table (left_by who ss.items) (apart-left who ss.items sound.apart) w held.0 ∙ (ap (λ g. mode_in g.holds held.0) (same w kept.0) ∙ (sym (mode_of-table ss.items sound.apart w held.0) ∙ held.2))))
           ];
-      consistent = left_consistent es.items fs.items rs.items ss.items who gone sound.consistent;
-      memory = omega arith;
-    }
-
--- ---- a number gets room
-
-pub seat_left : (es : Vec Entry Global) (rs : SmallVec Room) (who : ℕ) → IsSound es rs → HasSeatFor (table_of es.items rs.items) who → places_of rs.items who ≡ None → HasRoomFor rs 1
-seat_left es rs who sound seat none =
-    let numbers : List ℕ = map (λ (r : Room). r.who) rs.items in
-    let each : (w : ℕ) → list_any (nat_eq w) numbers ≡ true → (w ≢ who) × IsListed (table_of es.items rs.items) w = λ w there. (
-      (λ e. let both : is_some (places_of rs.items who) ≡ true = is_some-places_of rs.items who ∙ subst (λ v. list_any (nat_eq v) numbers ≡ true) e there in let gone = ap is_some none in absurd (cc)),
-      sound.used w (is_some-places_of rs.items w ∙ there),
-    ) in
-    let few = seat numbers sound.apart (All-weaker (λ w. list_any (nat_eq w) numbers ≡ true) (λ w. (w ≢ who) × IsListed (table_of es.items rs.items) w) each numbers (All-is_member nat_eq_equiv numbers)) in
-    let size = length-map rs.items (λ (r : Room). r.who) in
-    let inline = sound.inline in
-    omega arith
-
-places_of-given_other : (who p : ℕ) (rs : List Room) (w : ℕ) → w ≢ who → places_of (given who p rs) w ≡ places_of rs w
-places_of-given_other who p [] w ne = place_past (record { who = who; places = p }) [] w (ne_eqb w who ne)
-places_of-given_other who p (r ∷ rs) w ne =
-    elim (r.who == who) as (λ b. (r.who == who) ≡ b → places_of (cond b (record r { places = r.places + p } ∷ rs) (r ∷ given who p rs)) w ≡ places_of (r ∷ rs) w) [
-      | true ↦ λ e.
-          let apart = ne_eqb w r.who (λ same. ne (same ∙ eqb-true r.who who e)) in
-          place_past (record r { places = r.places + p }) rs w apart ∙ sym (place_past r rs w apart)
-      | false ↦ λ e. ap (λ o. cond (eq_by_cmp nat_cmp w r.who) (Some r.places) o) (places_of-given_other who p rs w ne)
-    ] refl
-
-places_of-given_same : (who p : ℕ) (rs : List Room) → places_of (given who p rs) who ≡ Some (unwrap_or (places_of rs who) 0 + p)
-places_of-given_same who p [] = place_here (record { who = who; places = p }) [] who (eq-eqb who who refl) ∙ ap Some (omega arith)
-places_of-given_same who p (r ∷ rs) =
-    elim (r.who == who) as (λ b. (r.who == who) ≡ b → places_of (cond b (record r { places = r.places + p } ∷ rs) (r ∷ given who p rs)) who ≡ Some (unwrap_or (places_of (r ∷ rs) who) 0 + p)) [
-      | true ↦ λ e.
-          let here = eq-eqb who r.who (sym (eqb-true r.who who e)) in
-          place_here (record r { places = r.places + p }) rs who here ∙ ap (λ o. Some (unwrap_or o 0 + p)) (sym (place_here r rs who here))
-      | false ↦ λ e.
-          let past = ne_eqb who r.who (λ same. eqb-false r.who who e (sym same)) in
-          place_past r (given who p rs) who past ∙ (places_of-given_same who p rs ∙ ap (λ o. Some (unwrap_or o 0 + p)) (sym (place_past r rs who past)))
-    ] refl
-
-all_places-given : (who p : ℕ) (rs : List Room) → all_places (given who p rs) ≡ all_places rs + p
-all_places-given who p [] = let one = sum_by-cons (λ (r : Room). r.places) (record { who = who; places = p }) [] in omega arith
-all_places-given who p (r ∷ rs) =
-    let whole = sum_by-cons (λ (r : Room). r.places) r rs in
-    elim (r.who == who) as (λ b. all_places (cond b (record r { places = r.places + p } ∷ rs) (r ∷ given who p rs)) ≡ all_places (r ∷ rs) + p) [
-      | true ↦ let more = sum_by-cons (λ (r : Room). r.places) (record r { places = r.places + p }) rs in omega arith
-      | false ↦ let rest = all_places-given who p rs in let more = sum_by-cons (λ (r : Room). r.places) r (given who p rs) in omega arith
-    ]
-
--- the numbers stay, or there is one more
-numbers-given : (who p : ℕ) (rs : List Room) → (map (λ r. r.who) (given who p rs) ≡ map (λ r. r.who) rs) ⊎ ((list_any (nat_eq who) (map (λ r. r.who) rs) ≡ false) × (map (λ r. r.who) (given who p rs) ≡ map (λ r. r.who) rs ++ who ∷ []))
-numbers-given who p [] = inr (refl, refl)
-numbers-given who p (r ∷ rs) =
-    elim (r.who == who) as (λ b. (r.who == who) ≡ b → (map (λ (r : Room). r.who) (cond b (record r { places = r.places + p } ∷ rs) (r ∷ given who p rs)) ≡ r.who ∷ map (λ (r : Room). r.who) rs) ⊎ (((nat_eq who r.who || list_any (nat_eq who) (map (λ (r : Room). r.who) rs)) ≡ false) × (map (λ (r : Room). r.who) (cond b (record r { places = r.places + p } ∷ rs) (r ∷ given who p rs)) ≡ r.who ∷ (map (λ (r : Room). r.who) rs ++ who ∷ [])))) [
-      | true ↦ λ _. inl refl
-      | false ↦ λ e. elim (numbers-given who p rs) [
-        | inl same ↦ inl (ap (λ l. r.who ∷ l) same)
-        | inr new ↦ inr ((λ i. ne_eqb who r.who (λ same. eqb-false r.who who e (sym same)) i || new.0 i), ap (λ l. r.who ∷ l) new.1)
-      ]
-    ] refl
-
-pub room_sound : (es fs : Vec Entry Global) (rs ss : SmallVec Room) (who p : ℕ) → IsSound es rs → HasSeatFor (table_of es.items rs.items) who → 0 < p → fs.items ≡ es.items → ss.items ≡ given who p rs.items → ss.capacity ≡ rs.capacity → vec_len fs + (all_places rs.items + p) ≤ vec_capacity fs → IsSound fs ss
-room_sound es fs rs ss who p sound seat some same items inline memory =
-    let total : all_places ss.items ≡ all_places rs.items + p = ap all_places items ∙ all_places-given who p rs.items in
-    let other : (w : ℕ) → w ≢ who → places_of ss.items w ≡ places_of rs.items w = λ w ne. ap (λ l. places_of l w) items ∙ places_of-given_other who p rs.items w ne in
-    let own : places_of ss.items who ≡ Some (unwrap_or (places_of rs.items who) 0 + p) = ap (λ l. places_of l who) items ∙ places_of-given_same who p rs.items in
-    let holds : (w : ℕ) (k : LockKey) → mode_of (table_of fs.items ss.items) w k ≡ mode_of (table_of es.items rs.items) w k = λ w k. ap (λ l. finite.get (map_of l) (k, w)) same in
-    let numbers : List ℕ = map (λ (r : Room). r.who) rs.items in
-    let size = length-map ss.items (λ (r : Room). r.who) in
-    let long = length-map rs.items (λ (r : Room). r.who) in
-    let few = sound.few in
-    let both : IsDistinct nat_eq (map (λ (r : Room). r.who) ss.items) × (length ss.items ≤ MAX_NUMBERS) =
-    elim (numbers-given who p rs.items) [
-      | inl stay ↦
-          let are = ap (map (λ (r : Room). r.who)) items ∙ stay in
-          let count = ap length are in
-          (subst (IsDistinct nat_eq) (sym are) sound.apart, omega arith)
-      | inr new ↦
-          let are = ap (map (λ (r : Room). r.who)) items ∙ new.1 in
-          let count = ap length are in
-          let one = length-append numbers (who ∷ []) in
-          let left = seat_left es rs who sound seat (none_of (places_of rs.items who) (is_some-places_of rs.items who ∙ new.0)) in
-          let cap = sound.inline in
-          (subst (IsDistinct nat_eq) (sym are) (IsDistinct-push nat_eq_equiv numbers who sound.apart new.0), omega arith)
-    ] in
-    record {
-      array = subst IsKeyArray (sym same) sound.array;
-      apart = both.0;
-      few = both.1;
-      inline = inline ∙ sound.inline;
-      listed = λ w k m held. elim (cases_eq w who) [
-        | inl e ↦ ap (λ v. is_some (places_of ss.items v)) e ∙ ap is_some own
-        | inr ne ↦ ap is_some (other w ne) ∙ sound.listed w k m (sym (holds w k) ∙ held)
-      ];
-      used = λ w here. elim (cases_eq w who) [
-        | inl e ↦ inl (let now : room_of (table_of fs.items ss.items) w ≡ unwrap_or (places_of rs.items who) 0 + p = ap (room_of (table_of fs.items ss.items)) e ∙ (room_of-table fs.items ss.items who ∙ ap (λ o. unwrap_or o 0) own) in omega arith)
-        | inr ne ↦ elim (sound.used w (ap is_some (sym (other w ne)) ∙ here)) [
-          | inl has ↦ inl (subst (λ n. 0 < n) (room_of-table es.items rs.items w ∙ (ap (λ o. unwrap_or o 0) (sym (other w ne)) ∙ sym (room_of-table fs.items ss.items w))) has)
-          | inr held ↦ inr (held.0, held.1, holds w held.0 ∙ held.2)
-        ]
-      ];
-      consistent = λ k v w m n ne here there. sound.consistent k v w m n ne (sym (holds v k) ∙ here) (sym (holds w k) ∙ there);
-      memory = omega arith;
+      consistent = left_consistent (table_of ss.items) (table_of ts.items) who leaves sound.consistent;
     }
   where
-    none_of : (o : Option ℕ) → is_some o ≡ false → o ≡ None
-    none_of None e = refl
-    none_of (Some n) e = absurd (cc)
+    same : (w : ℕ) → eqb w who ≡ false → grants_of (left_by who ss.items) w ≡ grants_of ss.items w
+    same w e = grants_of-left who ss.items w ∙ ap (λ b. cond b no_grants (grants_of ss.items w)) e
 
-pub room_gains : (es fs : List Entry) (rs ss : List Room) (who p : ℕ) → fs ≡ es → ss ≡ given who p rs → GainsRoom (table_of es rs) (table_of fs ss) who p
-room_gains es fs rs ss who p same items = record {
-  holds = ap map_of same;
-  room = room_of-table fs ss who ∙ (ap (λ l. unwrap_or (places_of l who) 0) items ∙ (ap (λ o. unwrap_or o 0) (places_of-given_same who p rs) ∙ ap (λ n. n + p) (sym (room_of-table es rs who))));
-  others = λ w ne. room_of-table fs ss w ∙ (ap (λ l. unwrap_or (places_of l w) 0) items ∙ (ap (λ o. unwrap_or o 0) (places_of-given_other who p rs w ne) ∙ sym (room_of-table es rs w)));
-}
+    kept_is_some : (b : Bool) (o : Option Grants) → is_some (cond b None o) ≡ true → (b ≡ false) × (is_some o ≡ true)
+    kept_is_some true o e = absurd (cc)
+    kept_is_some false o e = (refl, e)
+
+    stays : (w : ℕ) (b : Bool) → eqb w who ≡ b → is_some (seat_of ts.items w) ≡ true → (eqb w who ≡ false) × (is_some (seat_of ss.items w) ≡ true)
+    stays w b e here = kept_is_some (eqb w who) (seat_of ss.items w) (ap is_some (sym (seat_of-left who ss.items w)) ∙ (ap (λ l. is_some (seat_of l w)) (sym is) ∙ here))
 
 -- ---- the new table
 
-nothing_sorted : IsKeyArray []
-unfolding IsStrictlySortedBy
-nothing_sorted = record { sorted = tt; inline = All-nil IsInline }
-
-nothing_apart : IsDistinct nat_eq []
+nothing_apart : AreApart []
 unfolding IsDistinct
 nothing_apart = tt
 
-nothing_held : (who : ℕ) (key : LockKey) (m : Mode) → mode_of (table_of [] []) who key ≡ Some m → ⊥
-nothing_held who key m is = some_none m (sym is ∙ mode_of-table [] [] who key)
+pub new_consistent : (ss : List Seat) → ss ≡ [] → IsConsistent (table_of ss)
+new_consistent ss none k v w m n ne here there =
+    absurd (some_none m (sym (ap (λ l. mode_of (table_of l) v k) (sym none) ∙ here) ∙ mode_of-table [] nothing_apart v k))
 
-pub new_consistent : (es : List Entry) (rs : List Room) → es ≡ [] → rs ≡ [] → IsConsistent (table_of es rs)
-new_consistent es rs none nobody k v w m n ne here there =
-    absurd (nothing_held v k m ((λ i. mode_of (table_of (sym none i) (sym nobody i)) v k) ∙ here))
-
-pub new_sound : (es : Vec Entry Global) (rs : SmallVec Room) → es.items ≡ [] → vec_len es ≡ 0 → rs.items ≡ [] → rs.capacity ≡ MAX_NUMBERS → IsSound es rs
-new_sound es rs none len nobody cap =
-    let size = ap length nobody in
-    let total = ap all_places nobody in
+pub new_sound : (ss : SmallVec Seat) → ss.items ≡ [] → ss.capacity ≡ MAX_NUMBERS → IsSound ss
+new_sound ss none cap =
+    let size = ap length none in
     record {
-      array = subst IsKeyArray (sym none) nothing_sorted;
-      apart = subst (λ l. IsDistinct nat_eq (map (λ (r : Room). r.who) l)) (sym nobody) nothing_apart;
+      apart = subst AreApart (sym none) nothing_apart;
       few = omega arith;
       inline = cap;
-      listed = λ w k m held. absurd (nothing_held w k m ((λ i. mode_of (table_of (sym none i) (sym nobody i)) w k) ∙ held));
-      used = λ w here. let gone : is_some (places_of rs.items w) ≡ false = ap (λ l. is_some (places_of l w)) nobody in absurd (cc);
-      consistent = new_consistent es.items rs.items none nobody;
-      memory = omega arith;
+      used = λ w here. let gone : is_some (seat_of ss.items w) ≡ false = ap (λ l. is_some (seat_of l w)) none in absurd (cc);
+      consistent = new_consistent ss.items none;
     }

@@ -1,9 +1,8 @@
 pub mod Orders
 pub mod Waits
-pub mod KeyHolders
-pub mod KeyArrays
-pub mod KeyDrops
-pub mod RoomLists
 pub mod Retained
+pub mod HoldArrays
+pub mod SeatLists
+pub mod Blockers
 pub mod KeyTables
 pub mod KeyChecks

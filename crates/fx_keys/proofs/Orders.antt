@@ -1,5 +1,5 @@
 -- The orders of keys and of holds are total, and only equal ones tie; what a map of holds answers after a call.
-use Rattle.std.proofs.Common.{◌≡◌, ◌≢◌, ℕ, true, false, cond, not, ◌==◌, eqb, Some, None, Ordering, Less, Equal, Greater, refl, sym, ap, ◌∙◌, subst, eqb-true, ne_eqb, ◌⊎◌, inl, inr}
+use Rattle.std.proofs.Common.{◌≡◌, ◌≢◌, ℕ, true, false, cond, not, ◌==◌, ◌&&◌, eqb, Some, None, Ordering, Less, Equal, Greater, refl, sym, ap, ◌∙◌, subst, eqb-true, ne_eqb, ◌⊎◌, inl, inr}
 use Rattle.std.specs.Ordering.{nat_cmp, ordering_then, eq_by_cmp, is_eq}
 use Rattle.std.specs.Cmp.{IsTotalOrder, then_total, on_total, nat_cmp_total, tied_itself}
 use Rattle.std.specs.FinMap as map
@@ -102,3 +102,22 @@ same_or_not j k =
       | Equal ↦ λ e. inl (key_exact j k e)
       | Greater ↦ λ e. inr (λ same. let tie = tied_itself key_total k in let here : key_cmp k k ≡ Greater = subst (λ x. key_cmp x k ≡ Greater) same e in absurd (cc))
     ] refl
+
+-- a key ties with itself alone
+pub key_itself : (k : LockKey) → eq_by_cmp key_cmp k k ≡ true
+key_itself k = ap is_eq (tied_itself key_total k)
+
+pub keys_untied : (j k : LockKey) → j ≢ k → eq_by_cmp key_cmp j k ≡ false
+keys_untied j k ne =
+    elim (eq_by_cmp key_cmp j k) as (λ b. eq_by_cmp key_cmp j k ≡ b → b ≡ false) [
+      | true ↦ λ e. absurd (ne (key_exact j k (from_is_eq _ e)))
+      | false ↦ λ e. refl
+    ] refl
+
+-- two holds tie where both the keys and the numbers do
+pub hold_ties : (j k : LockKey) (v w : ℕ) → eq_by_cmp hold_cmp (j, v) (k, w) ≡ (eq_by_cmp key_cmp j k && eqb v w)
+hold_ties j k v w =
+    elim (same_or_not j k) [
+      | inl e ↦ subst (λ x. eq_by_cmp hold_cmp (j, v) (x, w) ≡ (eq_by_cmp key_cmp j x && eqb v w)) e (one_key j v w ∙ nat_ties v w ∙ ap (λ b. b && eqb v w) (sym (key_itself j)))
+      | inr ne ↦ keys_apart j k v w ne ∙ ap (λ b. b && eqb v w) (sym (keys_untied j k ne))
+    ]

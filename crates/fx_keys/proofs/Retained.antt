@@ -3,7 +3,7 @@ use Rattle.std.proofs.Common.{◌≡◌, ℕ, ◌<◌, ◌≤◌, Bool, cond, Li
 use Rattle.std.specs.List.{retain_mut, refill, reduce}
 use Rattle.std.specs.List.Retain.{RetainsInTurn}
 use Rattle.std.proofs.lemmas.List.Elements.{All-nil, All-cons, All-head, All-tail}
-use Rattle.fx_keys.specs.Array.{IsLeastOf}
+use Rattle.fx_keys.specs.Seats.{IsLeastOf}
 
 module _ {S X : Type 0} (R : S → X → Bool → S → X → Type 0) (test : X → Bool) (change : X → X) (f : S) (says : (x : X) (b : Bool) (t : S) (y : X) → R f x b t y → (b ≡ test x) × ((t ≡ f) × (y ≡ change x))) where
   pub retained : (xs ys : List X) → RetainsInTurn R f xs ys → ys ≡ retain_mut test change xs

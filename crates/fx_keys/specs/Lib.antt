@@ -1,5 +1,5 @@
 pub mod Conflict
 pub mod Table
 pub mod Waiting
-pub mod Array
-pub mod Rooms
+pub mod Holdings
+pub mod Seats

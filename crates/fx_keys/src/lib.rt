@@ -5,9 +5,9 @@
 //! while they read, never wait for one another in a circle.
 #![tactic(auto)]
 
-mod array;
 mod conflict;
-mod rooms;
+mod holdings;
+mod seats;
 mod table;
 mod waiting;
 

@@ -2,8 +2,7 @@
 ghost use Rattle.std.specs.Prelude.{◌≡◌, ◌≢◌, ◌<◌, Some, OnOk, OnErr};
 ghost use Rattle.fx_keys.specs.Table.{empty_table, mode_of, room_of, HasSeatFor, GainsRoom, IsConsistent, IsAboveKeysOf, IsNextToRaise, AskGives, RaiseGives, Leaves};
 
-use crate::array::{Entry, hold, raise_hold, release};
-use crate::rooms::{Room, forget, give, promised, spend};
+use crate::seats::{Seat, forget, grant, least_in_the_way, raise, reserve};
 use fx_item::{LockKey, Mode};
 use smallvec::SmallVec;
 use std::alloc::{AllocError, Global};
@@ -23,11 +22,12 @@ pub enum Asked {
 
 /// Which number holds which key in which mode, and how many further keys each may take.
 ///
-/// The keys that are held stand in one sorted array, each with its holders, at most 32 of them, in the entry itself.
+/// Each number has its keys in a sorted array of its own, 24 bytes a key, and the numbers stand in a list with 32
+/// places in the table itself. So a number that leaves gives back all the memory that it took, and no other number's
+/// keys are moved or looked at for it: a table that lives long keeps nothing of its peak.
 #[derive(Drop)]
 pub struct KeyTable {
-    entries: Vec<Entry>,
-    rooms: SmallVec<Room, MAX_NUMBERS>,
+    seats: SmallVec<Seat, MAX_NUMBERS>,
 }
 
 impl Model for KeyTable {
@@ -39,11 +39,11 @@ impl Model for KeyTable {
 
     ghost coded = { table_code lock_key.the_row.coded lock_mode.the_row.coded };
 
-    ghost use Rattle.fx_keys.specs.Rooms.{table_of, IsSound};
+    ghost use Rattle.fx_keys.specs.Seats.{table_of, IsSound};
 
-    ghost view = { λ t. table_of t.entries.items t.rooms.items };
+    ghost view = { λ t. table_of t.seats.items };
 
-    ghost invariant = { λ t. IsSound t.entries t.rooms };
+    ghost invariant = { λ t. IsSound t.seats };
 }
 
 impl KeyTable {
@@ -53,30 +53,24 @@ impl KeyTable {
         ensures consistent { IsConsistent result }
     {
         KeyTable {
-            entries: Vec::new(alloc),
-            rooms: SmallVec::new(alloc),
+            seats: SmallVec::new(alloc),
         }
     }
 
     /// Makes place for `count` further holds of the number's, whatever their keys. At most 32 numbers hold keys or
-    /// have room. On an error nothing has changed. Costs the memory of `count` keys at most.
+    /// have room. On an error nothing has changed. Costs the memory of `count` keys, and where the number has keys
+    /// already maybe a move of these.
     pub fn room(&mut self, who: u32, count: u32) -> Result<(), AllocError>
         requires { HasSeatFor self.old who }
         ensures ok { OnOk result (GainsRoom self.old self.new who count) }
         ensures err { OnErr result (self.new ≡ self.old) }
         ensures consistent { IsConsistent self.new }
     {
-        let places = promised(self.rooms.as_slice());
-        self.entries.reserve(places + count as usize)?;
-        if count > 0 {
-            give(&mut self.rooms, who, count as usize);
-        }
-        Ok(())
+        reserve(&mut self.seats, who, count)
     }
 
     /// Takes the key in this mode, unless another's hold of it conflicts. A hold takes one place of the number's room.
-    /// Takes no memory. Costs a binary search among the keys that are held, the holders of this key, and where none
-    /// held it yet a move of the keys above it.
+    /// Takes no memory. Costs a binary search among the keys of each other number, at most 31, and moves no key.
     pub fn ask(&mut self, who: u32, key: LockKey, mode: Mode) -> Asked
         requires room { 0 < room_of self.old who }
         requires mode { mode ≢ Mode.Write }
@@ -84,31 +78,35 @@ impl KeyTable {
         ensures answer { AskGives self.old who key mode result self.new }
         ensures consistent { IsConsistent self.new }
     {
-        if let Asked::Busy(other) = hold(&mut self.entries, who, key, mode) {
+        if let Some(other) = least_in_the_way(self.seats.as_slice(), who, key, mode) {
             return Asked::Busy(other);
         }
-        spend(&mut self.rooms, who);
+        grant(&mut self.seats, who, key, mode);
         Asked::Held
     }
 
     /// Turns a `Change` of the number's into a `Write`, unless another reads. Takes no memory. Costs a binary search
-    /// among the keys that are held, and the holders of this key.
+    /// among the keys of each number.
     pub fn raise(&mut self, who: u32, key: LockKey) -> Asked
         requires held { mode_of self.old who key ≡ Some Mode.Change }
         requires order { IsNextToRaise self.old who key }
         ensures answer { RaiseGives self.old who key result self.new }
         ensures consistent { IsConsistent self.new }
     {
-        raise_hold(&mut self.entries, who, key)
+        if let Some(other) = least_in_the_way(self.seats.as_slice(), who, key, Mode::Write) {
+            return Asked::Busy(other);
+        }
+        raise(&mut self.seats, who, key);
+        Asked::Held
     }
 
-    /// Ends all holds of the number, and its room. Takes no memory. Costs one pass over the keys that are held.
+    /// Ends all holds of the number, and its room. Takes no memory, and gives back all that the number took. Costs a
+    /// pass over the numbers, at most 32, and looks at no key.
     pub fn drop_all(&mut self, who: u32)
         ensures gone { Leaves self.old self.new who }
         ensures consistent { IsConsistent self.new }
     {
-        release(&mut self.entries, who);
-        forget(&mut self.rooms, who);
+        forget(&mut self.seats, who);
     }
 }
 

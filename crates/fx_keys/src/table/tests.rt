@@ -1,67 +1,56 @@
 //! The calls one after another: against worked answers, and against a plain list of holds.
-ghost use Rattle.std.specs.Prelude.{◌≡◌, ◌≢◌, ℕ, ◌<◌, ◌||◌, Some, IsTrue, not, is_none, unwrap_or};
-ghost use Rattle.std.specs.List.{list_all};
-ghost use Rattle.std.specs.Ordering.{is_lt};
-ghost use Rattle.fx_keys.specs.Array.{mode_among as mode_in, IsKeyArray, mode_at};
-ghost use Rattle.fx_keys.specs.Rooms.{places_of};
+ghost use Rattle.std.specs.Prelude.{◌≡◌, ◌≢◌, ℕ, ◌<◌, Some, IsTrue};
+ghost use Rattle.std.specs.List.{All};
+ghost use Rattle.std.specs.declared.cmp.Ordering.TheVariants.{Less};
 ghost use Rattle.fx_item.specs.LockKey.{key_cmp};
+ghost use Rattle.fx_keys.specs.Holdings.{mode_in};
+ghost use Rattle.fx_keys.specs.Seats.{grants_of};
 ghost use Rattle.fx_keys.specs.Table.{HasSeatFor, IsAboveKeysOf, IsNextToRaise, mode_of, room_of};
 
 use super::*;
-use crate::array::{Holder, locate};
 use crate::conflict::conflicts;
-use crate::rooms::seat;
+use crate::holdings::tests as own;
+use crate::seats::seat_at;
 use std::process::Abort;
 use std::test::Fail;
 
-/// In which mode the number is among the holders.
-fn mode_among(holders: &[Holder], who: u32) -> Option<Mode>
-    ensures { result ≡ mode_in holders.now who }
+/// How many further keys the number may take.
+fn places(seats: &[Seat], who: u32) -> usize
+    ensures { result ≡ (grants_of seats.now who).places }
 {
-    for holder in holders {
-        if holder.who == who {
-            return Some(holder.mode);
-        }
-    }
-    None
-}
-
-/// Whether each key of the number's is below this one.
-fn is_above(entries: &[Entry], who: u32, key: LockKey) -> bool
-    ensures { result ≡ list_all (λ e. is_none (mode_in e.holders.items who) || is_lt (key_cmp e.key key)) entries.now }
-{
-    entries.iter().all(|entry| mode_among(entry.holders.as_slice(), who).is_none()
-        || entry.key.cmp(&key).is_lt())
-}
-
-/// Whether no key of the number's is below this one.
-fn is_first(entries: &[Entry], who: u32, key: LockKey) -> bool
-    ensures { result ≡ list_all (λ e. is_none (mode_in e.holders.items who) || not (is_lt (key_cmp e.key key))) entries.now }
-{
-    entries.iter().all(|entry| mode_among(entry.holders.as_slice(), who).is_none()
-        || !entry.key.cmp(&key).is_lt())
-}
-
-fn places(rooms: &[Room], who: u32) -> usize
-    ensures { result ≡ unwrap_or (places_of rooms.now who) 0 }
-{
-    match seat(rooms, who) {
-        Some(at) => rooms[at].places,
+    match seat_at(seats, who) {
+        Some(at) => own::places(&seats[at].holdings),
         None => 0,
     }
 }
 
-/// Whether the number holds the key for a change.
-fn is_changing(entries: &[Entry], who: u32, key: LockKey) -> bool
-    requires { IsKeyArray entries.now }
-    ensures { IsTrue result → mode_at entries.now key who ≡ Some Mode.Change }
+/// Whether each key of the number's is below this one.
+fn is_above(seats: &[Seat], who: u32, key: LockKey) -> bool
+    ensures { IsTrue result → All (λ h. key_cmp h.key key ≡ Less) (grants_of seats.now who).holds }
 {
-    match locate(entries, key) {
-        Ok(at) => matches!(
-            mode_among(entries[at].holders.as_slice(), who),
-            Some(Mode::Change)
-        ),
-        Err(_) => false,
+    match seat_at(seats, who) {
+        Some(at) => own::are_below(&seats[at].holdings, key),
+        None => true,
+    }
+}
+
+/// Whether no key of the number's is below this one.
+fn is_first(seats: &[Seat], who: u32, key: LockKey) -> bool
+    ensures { IsTrue result → All (λ h. key_cmp h.key key ≢ Less) (grants_of seats.now who).holds }
+{
+    match seat_at(seats, who) {
+        Some(at) => own::are_from(&seats[at].holdings, key),
+        None => true,
+    }
+}
+
+/// Whether the number holds the key for a change.
+fn is_changing(seats: &[Seat], who: u32, key: LockKey) -> bool
+    ensures { IsTrue result → mode_in (grants_of seats.now who).holds key ≡ Some Mode.Change }
+{
+    match seat_at(seats, who) {
+        Some(at) => matches!(seats[at].holdings.mode(key), Some(Mode::Change)),
+        None => false,
     }
 }
 
@@ -79,7 +68,7 @@ fn is_askable(mode: Mode) -> bool
 fn has_seat(table: &KeyTable) -> bool
     ensures { IsTrue result → (who : ℕ) → HasSeatFor table.now who }
 {
-    table.rooms.len() < MAX_NUMBERS
+    table.seats.len() < MAX_NUMBERS
 }
 
 /// Whether the number may ask for the key.
@@ -87,7 +76,7 @@ fn may_ask(table: &KeyTable, who: u32, key: LockKey) -> bool
     ensures room { IsTrue result → 0 < room_of table.now who }
     ensures order { IsTrue result → IsAboveKeysOf table.now who key }
 {
-    places(table.rooms.as_slice(), who) > 0 && is_above(table.entries.as_slice(), who, key)
+    places(table.seats.as_slice(), who) > 0 && is_above(table.seats.as_slice(), who, key)
 }
 
 /// Whether the number may raise its hold of the key.
@@ -95,7 +84,14 @@ fn may_raise(table: &KeyTable, who: u32, key: LockKey) -> bool
     ensures held { IsTrue result → mode_of table.now who key ≡ Some Mode.Change }
     ensures order { IsTrue result → IsNextToRaise table.now who key }
 {
-    is_changing(table.entries.as_slice(), who, key) && is_first(table.entries.as_slice(), who, key)
+    is_changing(table.seats.as_slice(), who, key) && is_first(table.seats.as_slice(), who, key)
+}
+
+/// The ask of a number that has room.
+fn ask_in_room(rt: &impl Abort, table: &mut KeyTable, who: u32, key: LockKey, mode: Mode) -> Asked {
+    assert!(rt; may_ask(table, who, key));
+    assert!(rt; is_askable(mode));
+    table.ask(who, key, mode)
 }
 
 /// Room for one hold, and then the ask.
@@ -108,9 +104,7 @@ fn ask(
 ) -> Result<Asked, AllocError> {
     assert!(rt; has_seat(table));
     table.room(who, 1)?;
-    assert!(rt; may_ask(table, who, key));
-    assert!(rt; is_askable(mode));
-    Ok(table.ask(who, key, mode))
+    Ok(ask_in_room(rt, table, who, key, mode))
 }
 
 fn raise(rt: &impl Abort, table: &mut KeyTable, who: u32, key: LockKey) -> Asked {
@@ -237,5 +231,30 @@ fn as_a_plain_list_answers(rt: HostRuntime) -> Result<(), Fail> {
             holds.retain(|hold| hold.who != who);
         }
     }
+    Ok(())
+}
+
+/// A change of all keys by one number, beside a reader of some: each ask is a search, and a departure looks at no key.
+#[test]
+fn twenty_thousand_keys_of_one_number(rt: HostRuntime) -> Result<(), Fail> {
+    let mut table = KeyTable::new(rt.alloc());
+    assert!(rt; has_seat(&table));
+    table.room(1, 20_000)?;
+    for id in 0..20_000u64 {
+        assert_eq!(rt;
+            ask_in_room(&rt, &mut table, 1, key(id), Mode::Change),
+            Asked::Held
+        );
+    }
+    assert_eq!(rt; ask(&rt, &mut table, 2, key(7), Mode::Read)?, Asked::Held);
+    assert_eq!(rt;
+        ask(&rt, &mut table, 2, key(19_999), Mode::Share)?,
+        Asked::Busy(1)
+    );
+    table.drop_all(1);
+    assert_eq!(rt;
+        ask(&rt, &mut table, 2, key(19_999), Mode::Share)?,
+        Asked::Held
+    );
     Ok(())
 }
