@@ -18,7 +18,8 @@ use Rattle.fx_item.specs.LockKey.{key_cmp}
 use Rattle.fx_keys.specs.Holdings.{Grants, IsKeyArray, Locates, mode_in, granted, IsRaised}
 use Rattle.std.specs.FinMap.{find}
 use Rattle.std.proofs.lemmas.Bool.{cases_lt}
-use Rattle.fx_keys.proofs.Orders.{key_total, key_exact, key_itself, keys_untied, key_irreflexive, same_or_not}
+use Rattle.fx_item.proofs.KeyOrder.{lock_keys_total, lock_keys_exact}
+use Rattle.fx_keys.proofs.Orders.{key_itself, keys_untied, key_irreflexive, same_or_not}
 
 pub sorted_less : (hs : List Hold) (i j : ℕ) (d : Hold) → IsKeyArray hs → i < j → j < length hs → key_cmp (get_or hs i d).key (get_or hs j d).key ≡ Less
 sorted_less hs i j d sorted lt in' =
@@ -33,11 +34,11 @@ not_less j k less same = key_irreflexive k (subst (λ x. key_cmp x k ≡ Less) s
 
 -- what a binary search says of keys in order
 pub located : (hs : List Hold) (key : LockKey) (r : Result ℕ ℕ) → IsKeyArray hs → IsSearchInRange r (length hs) → IsBinarySearchResult (λ (h : Hold). key_cmp h.key key) hs r → Locates hs key r
-located hs key (Ok i) sorted bound found = (bound, λ d. key_exact (get_or hs i d).key key (found d))
+located hs key (Ok i) sorted bound found = (bound, λ d. lock_keys_exact (get_or hs i d).key key (found d))
 located hs key (Err i) sorted bound found =
     let up : IsSortedBy (λ (a : Hold) (b : Hold). is_lt (key_cmp a.key b.key)) hs = λ k d low high.
-    ap is_lt (key_total.antisymm (get_or hs (k + 1) d).key (get_or hs k d).key ∙ ap ordering_reverse (sorted_less hs k (k + 1) d sorted (omega arith) high)) in
-    let within = found (searchable_from_sorted key_total (λ (h : Hold). h.key) hs key up) in
+    ap is_lt (lock_keys_total.antisymm (get_or hs (k + 1) d).key (get_or hs k d).key ∙ ap ordering_reverse (sorted_less hs k (k + 1) d sorted (omega arith) high)) in
+    let within = found (searchable_from_sorted lock_keys_total (λ (h : Hold). h.key) hs key up) in
     (bound, within.0, within.1)
 
 -- the key stands at the place and nowhere before it
@@ -78,7 +79,7 @@ mode_missing hs key i at =
   where
     apart : (hs : List Hold) (key : LockKey) (i k : ℕ) (d : Hold) → Locates hs key (Err i) → k < length hs → (get_or hs k d).key ≢ key
     apart hs key i k d at lt same =
-        let tie = tied_itself key_total key in
+        let tie = tied_itself lock_keys_total key in
         elim (split k i) [
           | inl low ↦ let less : key_cmp key key ≡ Less = subst (λ j. key_cmp j key ≡ Less) same (at.1 k d (omega arith) low) in absurd (cc)
           | inr high ↦ let more : key_cmp key key ≡ Greater = subst (λ j. key_cmp j key ≡ Greater) same (at.2 k d high lt) in absurd (cc)
@@ -109,7 +110,7 @@ sorted_granted hs key mode sorted all =
 pub mode_granted : (hs : List Hold) (key : LockKey) (mode : Mode) (k : LockKey) → All (λ h. key_cmp h.key key ≡ Less) hs → mode_in (hs ++ record { key = key; mode = mode } ∷ []) k ≡ cond (eq_by_cmp key_cmp k key) (Some mode) (mode_in hs k)
 mode_granted hs key mode k all =
     ap (λ l. find key_cmp k l) (map-append (λ (h : Hold). (h.key, h.mode)) hs (record { key = key; mode = mode } ∷ []))
-    ∙ find-append key_cmp key_total (map (λ (h : Hold). (h.key, h.mode)) hs) key mode k (mode_above hs key all)
+    ∙ find-append key_cmp lock_keys_total (map (λ (h : Hold). (h.key, h.mode)) hs) key mode k (mode_above hs key all)
 
 -- ---- a raised hold
 

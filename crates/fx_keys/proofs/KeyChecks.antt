@@ -18,7 +18,8 @@ use Rattle.fx_keys.specs.declared.table.TheConstants.{MAX_NUMBERS}
 use Rattle.fx_keys.specs.Table.{IsListed, HasSeatFor, IsAboveKeysOf, IsNextToRaise}
 use Rattle.fx_keys.specs.Holdings.{IsKeyArray, mode_in}
 use Rattle.fx_keys.specs.Seats.{table_of, seat_of, grants_of, IsSound}
-use Rattle.fx_keys.proofs.Orders.{key_total, same_or_not, keys_untied}
+use Rattle.fx_item.proofs.KeyOrder.{lock_keys_total}
+use Rattle.fx_keys.proofs.Orders.{same_or_not, keys_untied}
 use Rattle.fx_keys.proofs.Retained.{any_default}
 use Rattle.fx_keys.proofs.HoldArrays.{sorted_less, some_none}
 use Rattle.fx_keys.proofs.SeatLists.{is_some-seat_of}
@@ -35,14 +36,14 @@ pub last_below : (hs : List Hold) (key : LockKey) (i : ℕ) (e : Hold) → IsKey
 last_below hs key i e sorted last less k d lt =
     let there : key_cmp (get_or hs i d).key key ≡ Less = subst (λ (h : Hold). key_cmp h.key key ≡ Less) (any_default hs i e d (omega arith)) less in
     elim (cases_lt k i) [
-      | inl low ↦ key_total.trans (get_or hs k d).key (get_or hs i d).key key (sorted_less hs k i d sorted low (omega arith)) there
+      | inl low ↦ lock_keys_total.trans (get_or hs k d).key (get_or hs i d).key key (sorted_less hs k i d sorted low (omega arith)) there
       | inr high ↦ let same : i ≡ k = omega arith in subst (λ j. key_cmp (get_or hs j d).key key ≡ Less) same there
     ]
 
 pub first_not_below : (hs : List Hold) (key : LockKey) (e : Hold) → IsKeyArray hs → 0 < length hs → key_cmp (get_or hs 0 e).key key ≢ Less → All (λ h. key_cmp h.key key ≢ Less) hs
 first_not_below hs key e sorted some not_less k d lt less =
     not_less (subst (λ (h : Hold). key_cmp h.key key ≡ Less) (any_default hs 0 d e some) (elim (cases_lt 0 k) [
-      | inl high ↦ key_total.trans (get_or hs 0 d).key (get_or hs k d).key key (sorted_less hs 0 k d sorted high lt) less
+      | inl high ↦ lock_keys_total.trans (get_or hs 0 d).key (get_or hs k d).key key (sorted_less hs 0 k d sorted high lt) less
       | inr low ↦ let same : k ≡ 0 = omega arith in subst (λ j. key_cmp (get_or hs j d).key key ≡ Less) same less
     ]))
 

@@ -8,13 +8,11 @@ use Rattle.std.proofs.lemmas.Bool.{eqb-false}
 use Rattle.fx_item.specs.declared.lock.LockKey.{LockKey}
 use Rattle.fx_item.specs.declared.lock.Mode.{Mode}
 use Rattle.fx_item.specs.LockKey.{key_cmp}
+use Rattle.fx_item.proofs.KeyOrder.{lock_keys_total, lock_keys_exact}
 use Rattle.fx_keys.specs.Table.{hold_cmp}
 
-pub key_total : IsTotalOrder key_cmp
-key_total = then_total (on_total (λ (k : LockKey). k.store) nat_cmp_total) (on_total (λ (k : LockKey). k.id) nat_cmp_total)
-
 pub hold_total : IsTotalOrder hold_cmp
-hold_total = then_total (on_total (λ (x : LockKey × ℕ). x.0) key_total) (on_total (λ (x : LockKey × ℕ). x.1) nat_cmp_total)
+hold_total = then_total (on_total (λ (x : LockKey × ℕ). x.0) lock_keys_total) (on_total (λ (x : LockKey × ℕ). x.1) nat_cmp_total)
 
 -- what ties by two orders ties by each
 then_parts : (a b : Ordering) → ordering_then a b ≡ Equal → (a ≡ Equal) × (b ≡ Equal)
@@ -22,22 +20,15 @@ then_parts Less b e = absurd (cc)
 then_parts Equal b e = (refl, e)
 then_parts Greater b e = absurd (cc)
 
-pub key_exact : IsAntisymmetric key_cmp
-key_exact j k e =
-    let parts = then_parts (nat_cmp j.store k.store) (nat_cmp j.id k.id) e in
-    let stores = nat_cmp-IsAntisymmetric j.store k.store parts.0 in
-    let ids = nat_cmp-IsAntisymmetric j.id k.id parts.1 in
-    λ i. record { store = stores i; id = ids i }
-
 pub hold_exact : IsAntisymmetric hold_cmp
 hold_exact x y e =
     let parts = then_parts (key_cmp x.0 y.0) (nat_cmp x.1 y.1) e in
-    let keys = key_exact x.0 y.0 parts.0 in
+    let keys = lock_keys_exact x.0 y.0 parts.0 in
     let numbers = nat_cmp-IsAntisymmetric x.1 y.1 parts.1 in
     λ i. (keys i, numbers i)
 
 pub key_irreflexive : (k : LockKey) → key_cmp k k ≢ Less
-key_irreflexive k e = let tie = tied_itself key_total k in absurd (cc)
+key_irreflexive k e = let tie = tied_itself lock_keys_total k in absurd (cc)
 
 from_is_eq : (r : Ordering) → is_eq r ≡ true → r ≡ Equal
 from_is_eq Less e = absurd (cc)
@@ -81,7 +72,7 @@ keys_apart j k v w ne =
 
 -- holds of one key tie where the numbers do
 pub one_key : (k : LockKey) (v w : ℕ) → eq_by_cmp hold_cmp (k, v) (k, w) ≡ eq_by_cmp nat_cmp v w
-one_key k v w = ap (λ r. is_eq (ordering_then r (nat_cmp v w))) (tied_itself key_total k)
+one_key k v w = ap (λ r. is_eq (ordering_then r (nat_cmp v w))) (tied_itself lock_keys_total k)
 
 -- to tie and to be equal is one for numbers
 pub nat_ties : (a b : ℕ) → eq_by_cmp nat_cmp a b ≡ eqb a b
@@ -98,19 +89,19 @@ nat_ties a b =
 pub same_or_not : (j k : LockKey) → (j ≡ k) ⊎ (j ≢ k)
 same_or_not j k =
     elim (key_cmp j k) as (λ r. key_cmp j k ≡ r → (j ≡ k) ⊎ (j ≢ k)) [
-      | Less ↦ λ e. inr (λ same. let tie = tied_itself key_total k in let here : key_cmp k k ≡ Less = subst (λ x. key_cmp x k ≡ Less) same e in absurd (cc))
-      | Equal ↦ λ e. inl (key_exact j k e)
-      | Greater ↦ λ e. inr (λ same. let tie = tied_itself key_total k in let here : key_cmp k k ≡ Greater = subst (λ x. key_cmp x k ≡ Greater) same e in absurd (cc))
+      | Less ↦ λ e. inr (λ same. let tie = tied_itself lock_keys_total k in let here : key_cmp k k ≡ Less = subst (λ x. key_cmp x k ≡ Less) same e in absurd (cc))
+      | Equal ↦ λ e. inl (lock_keys_exact j k e)
+      | Greater ↦ λ e. inr (λ same. let tie = tied_itself lock_keys_total k in let here : key_cmp k k ≡ Greater = subst (λ x. key_cmp x k ≡ Greater) same e in absurd (cc))
     ] refl
 
 -- a key ties with itself alone
 pub key_itself : (k : LockKey) → eq_by_cmp key_cmp k k ≡ true
-key_itself k = ap is_eq (tied_itself key_total k)
+key_itself k = ap is_eq (tied_itself lock_keys_total k)
 
 pub keys_untied : (j k : LockKey) → j ≢ k → eq_by_cmp key_cmp j k ≡ false
 keys_untied j k ne =
     elim (eq_by_cmp key_cmp j k) as (λ b. eq_by_cmp key_cmp j k ≡ b → b ≡ false) [
-      | true ↦ λ e. absurd (ne (key_exact j k (from_is_eq _ e)))
+      | true ↦ λ e. absurd (ne (lock_keys_exact j k (from_is_eq _ e)))
       | false ↦ λ e. refl
     ] refl
 

@@ -8,7 +8,8 @@ use Rattle.fx_keys.specs.declared.table.Asked.TheVariants.{Held, Busy}
 use Rattle.fx_item.specs.LockKey.{key_cmp}
 use Rattle.fx_keys.specs.Table.{Table, mode_of, IsAboveKeysOf}
 use Rattle.fx_keys.specs.Waiting.{Call, Room, Ask, Raise, DropAll, caller_of, MayBeMade, Did, IsNoReader, IsDisciplined, Reaches, Request, ToHold, ToWrite, refused, request_of, IsInTheWay, IsChain}
-use Rattle.fx_keys.proofs.Orders.{key_total, key_irreflexive, get-insert_other, get-left_other}
+use Rattle.fx_item.proofs.KeyOrder.{lock_keys_total}
+use Rattle.fx_keys.proofs.Orders.{key_irreflexive, get-insert_other, get-left_other}
 
 -- what is so of a number that waits: it does not read, and asks above its keys
 abbrev pub IsOrderly : Table → ℕ → Option Request → Type 0
@@ -88,7 +89,7 @@ along calls table r w (u ∷ us) v q is (there, chain) =
       key = step.key;
       mode = step.mode;
       asks = step.asks;
-      below = λ k m e. key_total.trans step.key rest.key k (step.below rest.key rest.mode rest.asks) (rest.below k m e);
+      below = λ k m e. lock_keys_total.trans step.key rest.key k (step.below rest.key rest.mode rest.asks) (rest.below k m e);
     }
 
 pub no_cycle : (calls : List Call) (table : Table) → Reaches calls table → (who : ℕ) (others : List ℕ) → ¬ (IsChain calls table who others who)

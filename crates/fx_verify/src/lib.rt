@@ -1,0 +1,7 @@
+//! Which transactions of a journal an image keeps: those up to the greatest number after which each block that they
+//! wrote and that is still live has the sum that they state for it.
+#![tactic(auto)]
+
+mod laws;
+
+pub use laws::{kept_exists, kept_is_one};
