@@ -17,7 +17,7 @@ use Rattle.fx_keys.specs.declared.seats.Seat.{Seat}
 use Rattle.fx_keys.specs.declared.table.TheConstants.{MAX_NUMBERS}
 use Rattle.fx_keys.specs.Table.{IsListed, HasSeatFor, IsAboveKeysOf, IsNextToRaise}
 use Rattle.fx_keys.specs.Holdings.{IsKeyArray, mode_in}
-use Rattle.fx_keys.specs.Seats.{table_of, seat_of, grants_of, IsSound}
+use Rattle.fx_keys.specs.Seats.{seats_table, seat_of, grants_of, AreSeats}
 use Rattle.fx_item.proofs.KeyOrder.{lock_keys_total}
 use Rattle.fx_keys.proofs.Orders.{same_or_not, keys_untied}
 use Rattle.fx_keys.proofs.Retained.{any_default}
@@ -58,10 +58,10 @@ key_has P (h ∷ hs) all k m is =
       | inr ne ↦ key_has P hs (All-tail (λ h. P h.key) h hs all) k m (sym (ap (λ b. cond b (Some h.mode) (mode_in hs k)) (keys_untied k h.key ne)) ∙ is)
     ]
 
-pub above_from : (ss : List Seat) → AreApart ss → (who : ℕ) (key : LockKey) → All (λ h. key_cmp h.key key ≡ Less) (grants_of ss who).holds → IsAboveKeysOf (table_of ss) who key
+pub above_from : (ss : List Seat) → AreApart ss → (who : ℕ) (key : LockKey) → All (λ h. key_cmp h.key key ≡ Less) (grants_of ss who).holds → IsAboveKeysOf (seats_table ss) who key
 above_from ss apart who key all k m is = key_has (λ j. key_cmp j key ≡ Less) (grants_of ss who).holds all k m (sym (mode_of-table ss apart who k) ∙ is)
 
-pub first_from : (ss : List Seat) → AreApart ss → (who : ℕ) (key : LockKey) → All (λ h. key_cmp h.key key ≢ Less) (grants_of ss who).holds → IsNextToRaise (table_of ss) who key
+pub first_from : (ss : List Seat) → AreApart ss → (who : ℕ) (key : LockKey) → All (λ h. key_cmp h.key key ≢ Less) (grants_of ss who).holds → IsNextToRaise (seats_table ss) who key
 first_from ss apart who key all k less is = key_has (λ j. key_cmp j key ≢ Less) (grants_of ss who).holds all k Change (sym (mode_of-table ss apart who k) ∙ is) less
 
 -- ---- places for numbers
@@ -74,7 +74,7 @@ member_has P (x ∷ xs) q all any =
       | inr rest ↦ member_has P xs q (All-tail P x xs all) rest
     ]
 
-listed_there : (ss : List Seat) → AreApart ss → (q : ℕ) → IsListed (table_of ss) q → is_some (seat_of ss q) ≡ true
+listed_there : (ss : List Seat) → AreApart ss → (q : ℕ) → IsListed (seats_table ss) q → is_some (seat_of ss q) ≡ true
 listed_there ss apart q (inl some) = there (seat_of ss q) (seated_there ss q some)
   where
     there : {X : Type 0} (o : Option X) → o ≢ None → is_some o ≡ true
@@ -82,9 +82,9 @@ listed_there ss apart q (inl some) = there (seat_of ss q) (seated_there ss q som
     there (Some x) ne = refl
 listed_there ss apart q (inr held) = ap is_some (held_seat (seat_of ss q) held.0 held.1 (sym (mode_of-table ss apart q held.0) ∙ held.2)).1
 
-pub seat_from : (ss : SmallVec Seat) → IsSound ss → length ss.items < MAX_NUMBERS → (who : ℕ) → HasSeatFor (table_of ss.items) who
+pub seat_from : (ss : SmallVec Seat) → AreSeats ss → length ss.items < MAX_NUMBERS → (who : ℕ) → HasSeatFor (seats_table ss.items) who
 seat_from ss sound less who others apart each =
-    let t = table_of ss.items in
+    let t = seats_table ss.items in
     let size = length-map ss.items (λ (s : Seat). s.who) in
     let member : (q : ℕ) → list_any (nat_eq q) others ≡ true → list_any (nat_eq q) (map (λ (s : Seat). s.who) ss.items) ≡ true = λ q h.
     sym (is_some-seat_of ss.items q) ∙ listed_there ss.items sound.apart q (member_has (λ w. (w ≢ who) × IsListed t w) others q each h).1 in

@@ -20,9 +20,9 @@ use Rattle.fx_keys.specs.declared.holdings.Hold.{Hold}
 use Rattle.fx_keys.specs.declared.seats.Seat.{Seat}
 use Rattle.fx_keys.specs.declared.table.TheConstants.{MAX_NUMBERS}
 use Rattle.fx_keys.specs.Conflict.{are_conflicting}
-use Rattle.fx_keys.specs.Table.{Table, hold_cmp, mode_of, room_of, IsConsistent, IsListed, HasSeatFor, IsAboveKeysOf, Blocks, Reads, IsLeast, GainsRoom, Gains, Rises, Leaves}
+use Rattle.fx_keys.specs.Table.{Table, hold_cmp, mode_of, room_of, IsConsistent, IsListed, HasSeatFor, IsAboveKeysOf, HoldsOff, Reads, IsLeast, GainsRoom, Gains, Rises, Leaves}
 use Rattle.fx_keys.specs.Holdings.{Grants, no_grants, mode_in, roomier, granted, IsRaised}
-use Rattle.fx_keys.specs.Seats.{holds_at, holds_in, rooms_in, table_of, seat_of, grants_of, seated, with_places, with_hold, RaisesAt, left_by, is_excluding, is_blocking, blockers, IsLeastOf, IsSound}
+use Rattle.fx_keys.specs.Seats.{holds_at, holds_in, rooms_in, seats_table, seat_of, grants_of, seated, with_places, with_hold, RaisesAt, left_by, is_excluding, is_blocking, blockers, IsLeastOf, AreSeats}
 use Rattle.fx_keys.proofs.Orders.{hold_total, hold_exact, hold_ties, key_itself, numbers_apart, key_irreflexive, get-insert_same, get-insert_other, get-left, same_or_not, keys_apart, nat_ties}
 use Rattle.fx_keys.proofs.HoldArrays.{mode_granted, some_none}
 use Rattle.fx_keys.proofs.SeatLists.{seat_here, seat_past, is_some-seat_of, seat_of-seated, numbers-seated, seat_of-left, apart-left, length-left}
@@ -102,7 +102,7 @@ find_holds (s ∷ ss) apart w key =
           ∙ sym (ap (λ o. mode_in (unwrap_or o no_grants).holds key) (seat_past s ss w (ne_eqb w s.who ne)))
     ]
 
-pub mode_of-table : (ss : List Seat) → AreApart ss → (who : ℕ) (key : LockKey) → mode_of (table_of ss) who key ≡ mode_in (grants_of ss who).holds key
+pub mode_of-table : (ss : List Seat) → AreApart ss → (who : ℕ) (key : LockKey) → mode_of (seats_table ss) who key ≡ mode_in (grants_of ss who).holds key
 mode_of-table ss apart who key = get-from_entries hold_total (holds_in ss) (key, who) ∙ find_holds ss apart who key
 
 abbrev places_in : Option Grants → Option ℕ
@@ -117,10 +117,10 @@ find_rooms (s ∷ ss) w =
       | false ↦ find_rooms ss w
     ]
 
-rooms_of-table : (ss : List Seat) (w : ℕ) → finite.get (table_of ss).rooms w ≡ places_in (seat_of ss w)
+rooms_of-table : (ss : List Seat) (w : ℕ) → finite.get (seats_table ss).rooms w ≡ places_in (seat_of ss w)
 rooms_of-table ss w = get-from_entries nat_cmp_total (rooms_in ss) w ∙ find_rooms ss w
 
-pub room_of-table : (ss : List Seat) (who : ℕ) → room_of (table_of ss) who ≡ (grants_of ss who).places
+pub room_of-table : (ss : List Seat) (who : ℕ) → room_of (seats_table ss) who ≡ (grants_of ss who).places
 room_of-table ss who = ap (λ o. unwrap_or o 0) (rooms_of-table ss who) ∙ of (seat_of ss who)
   where
     of : (o : Option Grants) → unwrap_or (places_in o) 0 ≡ (unwrap_or o no_grants).places
@@ -155,7 +155,7 @@ held_seat (Some g) key m is = (g, refl, is)
 
 -- ---- what the calls ask for
 
-pub above_all : (ss : List Seat) → AreApart ss → (who : ℕ) (key : LockKey) → IsAboveKeysOf (table_of ss) who key → All (λ h. key_cmp h.key key ≡ Less) (grants_of ss who).holds
+pub above_all : (ss : List Seat) → AreApart ss → (who : ℕ) (key : LockKey) → IsAboveKeysOf (seats_table ss) who key → All (λ h. key_cmp h.key key ≡ Less) (grants_of ss who).holds
 above_all ss apart who key above k d lt =
     let m = mode_listed (grants_of ss who).holds k d lt in
     above (get_or (grants_of ss who).holds k d).key m.0 (mode_of-table ss apart who (get_or (grants_of ss who).holds k d).key ∙ m.1)
@@ -176,7 +176,7 @@ excluding_mode : (o : Option Mode) (mode : Mode) → is_excluding o mode ≡ tru
 excluding_mode None mode e = absurd (cc)
 excluding_mode (Some held) mode e = (held, refl, e)
 
-blocker_blocks : (ss : List Seat) → AreApart ss → (who : ℕ) (key : LockKey) (mode : Mode) (w : ℕ) → IsBlocker who key mode ss w → Blocks (table_of ss) who key mode w
+blocker_blocks : (ss : List Seat) → AreApart ss → (who : ℕ) (key : LockKey) (mode : Mode) (w : ℕ) → IsBlocker who key mode ss w → HoldsOff (seats_table ss) who key mode w
 blocker_blocks ss apart who key mode w b =
     let x = excluding_mode (mode_in b.grants.holds key) mode b.blocks in
     record {
@@ -186,22 +186,22 @@ blocker_blocks ss apart who key mode w b =
       conflict = x.2;
     }
 
-has_blocker : (P : ℕ → Type 0) (ss : List Seat) → AreApart ss → (who : ℕ) (key : LockKey) (mode : Mode) → All P (blockers who key mode ss) → (w : ℕ) → Blocks (table_of ss) who key mode w → P w
+has_blocker : (P : ℕ → Type 0) (ss : List Seat) → AreApart ss → (who : ℕ) (key : LockKey) (mode : Mode) → All P (blockers who key mode ss) → (w : ℕ) → HoldsOff (seats_table ss) who key mode w → P w
 has_blocker P ss apart who key mode all w b =
     let x = held_seat (seat_of ss w) key b.held (sym (mode_of-table ss apart w key) ∙ b.holds) in
     blocker_has who key mode P ss all w x.0 b.apart x.1 (ap (λ o. is_excluding o mode) x.2 ∙ b.conflict)
 
-pub least_blocks : (ss : List Seat) → AreApart ss → (who : ℕ) (key : LockKey) (mode : Mode) (w : ℕ) → IsLeastOf (blockers who key mode ss) (Some w) → IsLeast (Blocks (table_of ss) who key mode) w
+pub least_blocks : (ss : List Seat) → AreApart ss → (who : ℕ) (key : LockKey) (mode : Mode) (w : ℕ) → IsLeastOf (blockers who key mode ss) (Some w) → IsLeast (HoldsOff (seats_table ss) who key mode) w
 least_blocks ss apart who key mode w least = record {
   here = blocker_blocks ss apart who key mode w (All-contains (IsBlocker who key mode ss) (blockers who key mode ss) w (all_block who key mode ss apart) least.0);
   least = λ v b. has_blocker (λ v. w ≤ v) ss apart who key mode least.1 v b;
 }
 
-pub none_blocks : (ss : List Seat) → AreApart ss → (who : ℕ) (key : LockKey) (mode : Mode) → IsLeastOf (blockers who key mode ss) None → (w : ℕ) → ¬ (Blocks (table_of ss) who key mode w)
+pub none_blocks : (ss : List Seat) → AreApart ss → (who : ℕ) (key : LockKey) (mode : Mode) → IsLeastOf (blockers who key mode ss) None → (w : ℕ) → ¬ (HoldsOff (seats_table ss) who key mode w)
 none_blocks ss apart who key mode none w b =
     has_blocker (λ _. ⊥) ss apart who key mode (subst (All (λ _. ⊥)) (sym none) (All-nil (λ _. ⊥))) w b
 
-pub reads_block : (t : Table) (who : ℕ) (key : LockKey) (w : ℕ) → Reads t who key w → Blocks t who key Write w
+pub reads_block : (t : Table) (who : ℕ) (key : LockKey) (w : ℕ) → Reads t who key w → HoldsOff t who key Write w
 reads_block t who key w r = record { apart = r.apart; held = Read; holds = r.holds; conflict = refl }
 
 -- beside a Change there are only Reads
@@ -211,7 +211,7 @@ only_read Change none = absurd (none refl)
 only_read Write none = absurd (none refl)
 only_read Read none = refl
 
-pub least_reads : (t : Table) (who : ℕ) (key : LockKey) (w : ℕ) → IsConsistent t → mode_of t who key ≡ Some Change → IsLeast (Blocks t who key Write) w → IsLeast (Reads t who key) w
+pub least_reads : (t : Table) (who : ℕ) (key : LockKey) (w : ℕ) → IsConsistent t → mode_of t who key ≡ Some Change → IsLeast (HoldsOff t who key Write) w → IsLeast (Reads t who key) w
 least_reads t who key w consistent change h =
     let b = h.here in
     let reads = only_read b.held (λ conflict. consistent key w who b.held Change b.apart b.holds change conflict) in
@@ -255,7 +255,7 @@ swapped Read Change = refl
 swapped Read Write = refl
 swapped Read Read = refl
 
-pub granted_consistent : (s t : Table) (who : ℕ) (key : LockKey) (mode : Mode) → IsConsistent s → ((w : ℕ) → ¬ (Blocks s who key mode w)) → t.holds ≡ finite.insert s.holds (key, who) mode → IsConsistent t
+pub granted_consistent : (s t : Table) (who : ℕ) (key : LockKey) (mode : Mode) → IsConsistent s → ((w : ℕ) → ¬ (HoldsOff s who key mode w)) → t.holds ≡ finite.insert s.holds (key, who) mode → IsConsistent t
 granted_consistent s t who key mode consistent free became k v w m n ne here there conflict =
     let old : (w : ℕ) (n : Mode) → mode_of t w k ≡ Some n → ((w ≡ who) × ((k ≡ key) × (n ≡ mode))) ⊎ (mode_of s w k ≡ Some n) = λ w n is. held_cases s.holds key who mode k w n (ap (λ h. finite.get h (k, w)) (sym became) ∙ is) in
     elim (old v m here) [
@@ -280,9 +280,9 @@ granted_consistent s t who key mode consistent free became k v w m n ne here the
     ]
 
 -- the number holds one more key, or a key in another mode
-pub holds_grown : (ss ts : List Seat) → AreApart ss → (who : ℕ) (key : LockKey) (mode : Mode) (g : Grants) → ((k : LockKey) → mode_in g.holds k ≡ cond (eq_by_cmp key_cmp k key) (Some mode) (mode_in (grants_of ss who).holds k)) → ts ≡ seated who g ss → (table_of ts).holds ≡ finite.insert (table_of ss).holds (key, who) mode
+pub holds_grown : (ss ts : List Seat) → AreApart ss → (who : ℕ) (key : LockKey) (mode : Mode) (g : Grants) → ((k : LockKey) → mode_in g.holds k ≡ cond (eq_by_cmp key_cmp k key) (Some mode) (mode_in (grants_of ss who).holds k)) → ts ≡ seated who g ss → (seats_table ts).holds ≡ finite.insert (seats_table ss).holds (key, who) mode
 holds_grown ss ts apart who key mode g modes is =
-    same_map hold_total hold_exact (table_of ts).holds (finite.insert (table_of ss).holds (key, who) mode) (λ q. at q.0 q.1)
+    same_map hold_total hold_exact (seats_table ts).holds (finite.insert (seats_table ss).holds (key, who) mode) (λ q. at q.0 q.1)
   where
     pick : (k : LockKey) (w : ℕ) (b : Bool) → eqb w who ≡ b → mode_in (cond b g (grants_of ss w)).holds k ≡ cond (eq_by_cmp key_cmp k key && b) (Some mode) (mode_in (grants_of ss w).holds k)
     pick k w true e =
@@ -290,27 +290,27 @@ holds_grown ss ts apart who key mode g modes is =
         (modes k ∙ ap (λ b. cond b (Some mode) (mode_in (grants_of ss who).holds k)) (sym (and_true (eq_by_cmp key_cmp k key))))
     pick k w false e = ap (λ b. cond b (Some mode) (mode_in (grants_of ss w).holds k)) (sym (and_false (eq_by_cmp key_cmp k key)))
 
-    at : (k : LockKey) (w : ℕ) → finite.get (table_of ts).holds (k, w) ≡ finite.get (finite.insert (table_of ss).holds (key, who) mode) (k, w)
+    at : (k : LockKey) (w : ℕ) → finite.get (seats_table ts).holds (k, w) ≡ finite.get (finite.insert (seats_table ss).holds (key, who) mode) (k, w)
     at k w =
-        ap (λ l. mode_of (table_of l) w k) is
+        ap (λ l. mode_of (seats_table l) w k) is
         ∙ mode_of-table (seated who g ss) (apart-seated who g ss apart) w k
         ∙ ap (λ x. mode_in x.holds k) (grants_of-seated who g ss w)
         ∙ pick k w (eqb w who) refl
         ∙ ap (λ b. cond b (Some mode) (mode_in (grants_of ss w).holds k)) (sym (hold_ties k key w who))
         ∙ ap (cond (eq_by_cmp hold_cmp (k, w) (key, who)) (Some mode)) (sym (mode_of-table ss apart w k))
-        ∙ sym (get-insert hold_total (table_of ss).holds (key, who) mode (k, w))
+        ∙ sym (get-insert hold_total (seats_table ss).holds (key, who) mode (k, w))
 
 -- what other numbers hold and may take stays
-pub other_mode : (ss ts : List Seat) → AreApart ss → (who : ℕ) (g : Grants) → ts ≡ seated who g ss → (w : ℕ) → w ≢ who → (k : LockKey) → mode_of (table_of ts) w k ≡ mode_of (table_of ss) w k
+pub other_mode : (ss ts : List Seat) → AreApart ss → (who : ℕ) (g : Grants) → ts ≡ seated who g ss → (w : ℕ) → w ≢ who → (k : LockKey) → mode_of (seats_table ts) w k ≡ mode_of (seats_table ss) w k
 other_mode ss ts apart who g is w ne k =
-    ap (λ l. mode_of (table_of l) w k) is
+    ap (λ l. mode_of (seats_table l) w k) is
     ∙ mode_of-table (seated who g ss) (apart-seated who g ss apart) w k
     ∙ ap (λ x. mode_in x.holds k) (grants_of-seated who g ss w ∙ ap (λ b. cond b g (grants_of ss w)) (ne_eqb w who ne))
     ∙ sym (mode_of-table ss apart w k)
 
-pub other_room : (ss ts : List Seat) (who : ℕ) (g : Grants) → ts ≡ seated who g ss → (w : ℕ) → w ≢ who → room_of (table_of ts) w ≡ room_of (table_of ss) w
+pub other_room : (ss ts : List Seat) (who : ℕ) (g : Grants) → ts ≡ seated who g ss → (w : ℕ) → w ≢ who → room_of (seats_table ts) w ≡ room_of (seats_table ss) w
 other_room ss ts who g is w ne =
-    ap (λ l. room_of (table_of l) w) is
+    ap (λ l. room_of (seats_table l) w) is
     ∙ room_of-table (seated who g ss) w
     ∙ ap (λ x. x.places) (grants_of-seated who g ss w ∙ ap (λ b. cond b g (grants_of ss w)) (ne_eqb w who ne))
     ∙ sym (room_of-table ss w)
@@ -319,13 +319,13 @@ pub own_grants : (ss ts : List Seat) (who : ℕ) (g : Grants) → ts ≡ seated 
 own_grants ss ts who g is = ap (λ l. grants_of l who) is ∙ grants_of-seated who g ss who ∙ ap (λ b. cond b g (grants_of ss who)) (eq-eqb who who refl)
 
 -- a list of numbers stays sound where one has other keys or places
-pub seated_sound : (ss ts : SmallVec Seat) (who : ℕ) (g : Grants) → IsSound ss → ts.items ≡ seated who g ss.items → ts.capacity ≡ ss.capacity → (seat_of ss.items who ≡ None → HasRoomFor ss 1) → IsListed (table_of ts.items) who → IsConsistent (table_of ts.items) → IsSound ts
+pub seated_sound : (ss ts : SmallVec Seat) (who : ℕ) (g : Grants) → AreSeats ss → ts.items ≡ seated who g ss.items → ts.capacity ≡ ss.capacity → (seat_of ss.items who ≡ None → HasRoomFor ss 1) → IsListed (seats_table ts.items) who → IsConsistent (seats_table ts.items) → AreSeats ts
 seated_sound ss ts who g sound is inline fits listed consistent = record {
   apart = subst AreApart (sym is) (apart-seated who g ss.items sound.apart);
   few = few;
   inline = inline ∙ sound.inline;
   used = λ w here. elim (cases_eq w who) [
-    | inl e ↦ subst (IsListed (table_of ts.items)) (sym e) listed
+    | inl e ↦ subst (IsListed (seats_table ts.items)) (sym e) listed
     | inr ne ↦ elim (sound.used w (ap is_some (sym (seat_of-seated who g ss.items w ∙ ap (λ b. cond b (Some g) (seat_of ss.items w)) (ne_eqb w who ne))) ∙ (ap (λ l. is_some (seat_of l w)) (sym is) ∙ here))) [
       | inl some ↦ inl (subst (λ n. 0 < n) (sym (other_room ss.items ts.items who g is w ne)) some)
       | inr held ↦ inr (held.0, held.1, other_mode ss.items ts.items sound.apart who g is w ne held.0 ∙ held.2)
@@ -356,38 +356,38 @@ seated_sound ss ts who g sound is inline fits listed consistent = record {
 
 -- ---- a number asks
 
-pub asked_modes : (ss : List Seat) → AreApart ss → (who : ℕ) (key : LockKey) (mode : Mode) → IsAboveKeysOf (table_of ss) who key → (k : LockKey) → mode_in (granted key mode (grants_of ss who)).holds k ≡ cond (eq_by_cmp key_cmp k key) (Some mode) (mode_in (grants_of ss who).holds k)
+pub asked_modes : (ss : List Seat) → AreApart ss → (who : ℕ) (key : LockKey) (mode : Mode) → IsAboveKeysOf (seats_table ss) who key → (k : LockKey) → mode_in (granted key mode (grants_of ss who)).holds k ≡ cond (eq_by_cmp key_cmp k key) (Some mode) (mode_in (grants_of ss who).holds k)
 asked_modes ss apart who key mode above k = mode_granted (grants_of ss who).holds key mode k (above_all ss apart who key above)
 
 -- a number with places is in the list
-pub seated_there : (ss : List Seat) (who : ℕ) → 0 < room_of (table_of ss) who → seat_of ss who ≢ None
+pub seated_there : (ss : List Seat) (who : ℕ) → 0 < room_of (seats_table ss) who → seat_of ss who ≢ None
 seated_there ss who some none =
-    let zero_room : room_of (table_of ss) who ≡ 0 = room_of-table ss who ∙ ap (λ o. (unwrap_or o no_grants).places) none in
+    let zero_room : room_of (seats_table ss) who ≡ 0 = room_of-table ss who ∙ ap (λ o. (unwrap_or o no_grants).places) none in
     omega arith
 
-pub asked_gains : (ss ts : List Seat) → AreApart ss → (who : ℕ) (key : LockKey) (mode : Mode) → 0 < room_of (table_of ss) who → IsAboveKeysOf (table_of ss) who key → ts ≡ with_hold who key mode ss → Gains (table_of ss) (table_of ts) who key mode
+pub asked_gains : (ss ts : List Seat) → AreApart ss → (who : ℕ) (key : LockKey) (mode : Mode) → 0 < room_of (seats_table ss) who → IsAboveKeysOf (seats_table ss) who key → ts ≡ with_hold who key mode ss → Gains (seats_table ss) (seats_table ts) who key mode
 asked_gains ss ts apart who key mode some above is =
     let old = room_of-table ss who in
-    let new : room_of (table_of ts) who ≡ (grants_of ss who).places - 1 = room_of-table ts who ∙ ap (λ g. g.places) (own_grants ss ts who (granted key mode (grants_of ss who)) is) in
+    let new : room_of (seats_table ts) who ≡ (grants_of ss who).places - 1 = room_of-table ts who ∙ ap (λ g. g.places) (own_grants ss ts who (granted key mode (grants_of ss who)) is) in
     record {
       holds = holds_grown ss ts apart who key mode (granted key mode (grants_of ss who)) (asked_modes ss apart who key mode above) is;
       room = omega arith;
       others = λ w ne. other_room ss ts who (granted key mode (grants_of ss who)) is w ne;
     }
 
-pub asked_sound : (ss ts : SmallVec Seat) (who : ℕ) (key : LockKey) (mode : Mode) → IsSound ss → 0 < room_of (table_of ss.items) who → Gains (table_of ss.items) (table_of ts.items) who key mode → ts.items ≡ with_hold who key mode ss.items → ts.capacity ≡ ss.capacity → ((w : ℕ) → ¬ (Blocks (table_of ss.items) who key mode w)) → IsSound ts
+pub asked_sound : (ss ts : SmallVec Seat) (who : ℕ) (key : LockKey) (mode : Mode) → AreSeats ss → 0 < room_of (seats_table ss.items) who → Gains (seats_table ss.items) (seats_table ts.items) who key mode → ts.items ≡ with_hold who key mode ss.items → ts.capacity ≡ ss.capacity → ((w : ℕ) → ¬ (HoldsOff (seats_table ss.items) who key mode w)) → AreSeats ts
 asked_sound ss ts who key mode sound some gains is inline free =
     seated_sound ss ts who (granted key mode (grants_of ss.items who)) sound is inline
     (λ none. absurd (seated_there ss.items who some none))
-    (inr (key, mode, ap (λ h. finite.get h (key, who)) gains.holds ∙ get-insert_same (table_of ss.items).holds (key, who) mode))
-    (granted_consistent (table_of ss.items) (table_of ts.items) who key mode sound.consistent free gains.holds)
+    (inr (key, mode, ap (λ h. finite.get h (key, who)) gains.holds ∙ get-insert_same (seats_table ss.items).holds (key, who) mode))
+    (granted_consistent (seats_table ss.items) (seats_table ts.items) who key mode sound.consistent free gains.holds)
 
 -- ---- a number raises a hold
 
-pub raised_rises : (ss ts : List Seat) → AreApart ss → (who : ℕ) (key : LockKey) → mode_of (table_of ss) who key ≡ Some Change → RaisesAt who key ss ts → Rises (table_of ss) (table_of ts) who key
+pub raised_rises : (ss ts : List Seat) → AreApart ss → (who : ℕ) (key : LockKey) → mode_of (seats_table ss) who key ≡ Some Change → RaisesAt who key ss ts → Rises (seats_table ss) (seats_table ts) who key
 raised_rises ss ts apart who key held r = record {
   holds = holds_grown ss ts apart who key Write r.grants r.raised.modes r.seats;
-  rooms = same_map nat_cmp_total nat_cmp-IsAntisymmetric (table_of ts).rooms (table_of ss).rooms (λ w.
+  rooms = same_map nat_cmp_total nat_cmp-IsAntisymmetric (seats_table ts).rooms (seats_table ss).rooms (λ w.
       rooms_of-table ts w ∙ (ap (λ l. places_in (seat_of l w)) r.seats ∙ (ap places_in (seat_of-seated who r.grants ss w) ∙ (stays w (eqb w who) refl ∙ sym (rooms_of-table ss w)))));
 }
   where
@@ -400,73 +400,73 @@ raised_rises ss ts apart who key held r = record {
         ap Some (r.raised.places ∙ ap (λ o. (unwrap_or o no_grants).places) there.1)
         ∙ sym (ap places_in (ap (seat_of ss) (eqb-true w who e) ∙ there.1))
 
-pub raised_sound : (ss ts : SmallVec Seat) (who : ℕ) (key : LockKey) → IsSound ss → mode_of (table_of ss.items) who key ≡ Some Change → Rises (table_of ss.items) (table_of ts.items) who key → RaisesAt who key ss.items ts.items → ts.capacity ≡ ss.capacity → ((w : ℕ) → ¬ (Blocks (table_of ss.items) who key Write w)) → IsSound ts
+pub raised_sound : (ss ts : SmallVec Seat) (who : ℕ) (key : LockKey) → AreSeats ss → mode_of (seats_table ss.items) who key ≡ Some Change → Rises (seats_table ss.items) (seats_table ts.items) who key → RaisesAt who key ss.items ts.items → ts.capacity ≡ ss.capacity → ((w : ℕ) → ¬ (HoldsOff (seats_table ss.items) who key Write w)) → AreSeats ts
 raised_sound ss ts who key sound held rises r inline free =
     seated_sound ss ts who r.grants sound r.seats inline
     (λ none. absurd (some_none Change (sym (sym (mode_of-table ss.items sound.apart who key ∙ ap (λ o. mode_in (unwrap_or o no_grants).holds key) none) ∙ held))))
-    (inr (key, Write, ap (λ h. finite.get h (key, who)) rises.holds ∙ get-insert_same (table_of ss.items).holds (key, who) Write))
-    (granted_consistent (table_of ss.items) (table_of ts.items) who key Write sound.consistent free rises.holds)
+    (inr (key, Write, ap (λ h. finite.get h (key, who)) rises.holds ∙ get-insert_same (seats_table ss.items).holds (key, who) Write))
+    (granted_consistent (seats_table ss.items) (seats_table ts.items) who key Write sound.consistent free rises.holds)
 
 -- ---- a number gets room
 
-pub seat_left : (ss : SmallVec Seat) (who : ℕ) → IsSound ss → HasSeatFor (table_of ss.items) who → seat_of ss.items who ≡ None → HasRoomFor ss 1
+pub seat_left : (ss : SmallVec Seat) (who : ℕ) → AreSeats ss → HasSeatFor (seats_table ss.items) who → seat_of ss.items who ≡ None → HasRoomFor ss 1
 seat_left ss who sound seat none =
     let numbers : List ℕ = map (λ (s : Seat). s.who) ss.items in
-    let each : (w : ℕ) → list_any (nat_eq w) numbers ≡ true → (w ≢ who) × IsListed (table_of ss.items) w = λ w there. (
+    let each : (w : ℕ) → list_any (nat_eq w) numbers ≡ true → (w ≢ who) × IsListed (seats_table ss.items) w = λ w there. (
       (λ e. let both : is_some (seat_of ss.items who) ≡ true = is_some-seat_of ss.items who ∙ subst (λ v. list_any (nat_eq v) numbers ≡ true) e there in let gone = ap is_some none in absurd (cc)),
       sound.used w (is_some-seat_of ss.items w ∙ there),
     ) in
-    let few = seat numbers sound.apart (All-weaker (λ w. list_any (nat_eq w) numbers ≡ true) (λ w. (w ≢ who) × IsListed (table_of ss.items) w) each numbers (All-is_member nat_eq_equiv numbers)) in
+    let few = seat numbers sound.apart (All-weaker (λ w. list_any (nat_eq w) numbers ≡ true) (λ w. (w ≢ who) × IsListed (seats_table ss.items) w) each numbers (All-is_member nat_eq_equiv numbers)) in
     let size = length-map ss.items (λ (s : Seat). s.who) in
     let inline = sound.inline in
     omega arith
 
-room_gains : (ss ts : List Seat) → AreApart ss → (who count : ℕ) → ts ≡ seated who (roomier count (grants_of ss who)) ss → GainsRoom (table_of ss) (table_of ts) who count
+room_gains : (ss ts : List Seat) → AreApart ss → (who count : ℕ) → ts ≡ seated who (roomier count (grants_of ss who)) ss → GainsRoom (seats_table ss) (seats_table ts) who count
 room_gains ss ts apart who count is = record {
-  holds = same_map hold_total hold_exact (table_of ts).holds (table_of ss).holds (λ q. at q.0 q.1);
+  holds = same_map hold_total hold_exact (seats_table ts).holds (seats_table ss).holds (λ q. at q.0 q.1);
   room = room_of-table ts who ∙ (ap (λ g. g.places) (own_grants ss ts who (roomier count (grants_of ss who)) is) ∙ ap (λ n. n + count) (sym (room_of-table ss who)));
   others = λ w ne. other_room ss ts who (roomier count (grants_of ss who)) is w ne;
 }
   where
-    at : (k : LockKey) (w : ℕ) → mode_of (table_of ts) w k ≡ mode_of (table_of ss) w k
+    at : (k : LockKey) (w : ℕ) → mode_of (seats_table ts) w k ≡ mode_of (seats_table ss) w k
     at k w = elim (cases_eq w who) [
       | inr ne ↦ other_mode ss ts apart who (roomier count (grants_of ss who)) is w ne k
       | inl e ↦
-          ap (λ v. mode_of (table_of ts) v k) e
+          ap (λ v. mode_of (seats_table ts) v k) e
           ∙ mode_of-table ts (subst AreApart (sym is) (apart-seated who (roomier count (grants_of ss who)) ss apart)) who k
           ∙ ap (λ g. mode_in g.holds k) (own_grants ss ts who (roomier count (grants_of ss who)) is)
           ∙ sym (mode_of-table ss apart who k)
-          ∙ ap (λ v. mode_of (table_of ss) v k) (sym e)
+          ∙ ap (λ v. mode_of (seats_table ss) v k) (sym e)
     ]
 
 pub same_consistent : (s t : Table) → IsConsistent s → t.holds ≡ s.holds → IsConsistent t
 same_consistent s t consistent same k v w m n ne here there =
     consistent k v w m n ne (ap (λ h. finite.get h (k, v)) (sym same) ∙ here) (ap (λ h. finite.get h (k, w)) (sym same) ∙ there)
 
-room_sound : (ss ts : SmallVec Seat) (who count : ℕ) → IsSound ss → HasSeatFor (table_of ss.items) who → 0 < count → GainsRoom (table_of ss.items) (table_of ts.items) who count → ts.items ≡ seated who (roomier count (grants_of ss.items who)) ss.items → ts.capacity ≡ ss.capacity → IsSound ts
+room_sound : (ss ts : SmallVec Seat) (who count : ℕ) → AreSeats ss → HasSeatFor (seats_table ss.items) who → 0 < count → GainsRoom (seats_table ss.items) (seats_table ts.items) who count → ts.items ≡ seated who (roomier count (grants_of ss.items who)) ss.items → ts.capacity ≡ ss.capacity → AreSeats ts
 room_sound ss ts who count sound seat some gains is inline =
     let room = gains.room in
     seated_sound ss ts who (roomier count (grants_of ss.items who)) sound is inline
     (λ none. seat_left ss who sound seat none)
     (inl (omega arith))
-    (same_consistent (table_of ss.items) (table_of ts.items) sound.consistent gains.holds)
+    (same_consistent (seats_table ss.items) (seats_table ts.items) sound.consistent gains.holds)
 
-sound_still : (ss ts : SmallVec Seat) → IsSound ss → ts.items ≡ ss.items → ts.capacity ≡ ss.capacity → IsSound ts
+sound_still : (ss ts : SmallVec Seat) → AreSeats ss → ts.items ≡ ss.items → ts.capacity ≡ ss.capacity → AreSeats ts
 sound_still ss ts sound items capacity =
     let same : ts ≡ ss = λ i. record { items = items i; capacity = capacity i } in
-    subst IsSound (sym same) sound
+    subst AreSeats (sym same) sound
 
 -- what a call for room does, and that it keeps
-pub room_given : (ss ts : SmallVec Seat) (who count : ℕ) → IsSound ss → HasSeatFor (table_of ss.items) who → ts.items ≡ with_places who count ss.items → ts.capacity ≡ ss.capacity → GainsRoom (table_of ss.items) (table_of ts.items) who count × IsSound ts
+pub room_given : (ss ts : SmallVec Seat) (who count : ℕ) → AreSeats ss → HasSeatFor (seats_table ss.items) who → ts.items ≡ with_places who count ss.items → ts.capacity ≡ ss.capacity → GainsRoom (seats_table ss.items) (seats_table ts.items) who count × AreSeats ts
 room_given ss ts who count sound seat is inline =
     elim (cases_eq count 0) [
       | inl none ↦
           let stays : ts.items ≡ ss.items = is ∙ ap (λ b. cond b ss.items (seated who (roomier count (grants_of ss.items who)) ss.items)) (eq-eqb count 0 none) in
-          let room = ap (λ l. room_of (table_of l) who) stays in (
+          let room = ap (λ l. room_of (seats_table l) who) stays in (
             record {
-              holds = ap (λ l. (table_of l).holds) stays;
+              holds = ap (λ l. (seats_table l).holds) stays;
               room = omega arith;
-              others = λ w ne. ap (λ l. room_of (table_of l) w) stays;
+              others = λ w ne. ap (λ l. room_of (seats_table l) w) stays;
             },
             sound_still ss ts sound stays inline,
           )
@@ -481,20 +481,20 @@ room_given ss ts who count sound seat is inline =
     some (suc n) ne = omega arith
 
 -- the call succeeded or changed nothing
-pub room_sound_always : {T E : Type 0} (r : Result T E) (ss ts : SmallVec Seat) (who count : ℕ) → IsSound ss → HasSeatFor (table_of ss.items) who → OnOk r (ts.items ≡ with_places who count ss.items) → OnErr r (ts.items ≡ ss.items) → ts.capacity ≡ ss.capacity → IsSound ts
+pub room_sound_always : {T E : Type 0} (r : Result T E) (ss ts : SmallVec Seat) (who count : ℕ) → AreSeats ss → HasSeatFor (seats_table ss.items) who → OnOk r (ts.items ≡ with_places who count ss.items) → OnErr r (ts.items ≡ ss.items) → ts.capacity ≡ ss.capacity → AreSeats ts
 room_sound_always (Ok x) ss ts who count sound seat ok err inline = (room_given ss ts who count sound seat ok inline).1
 room_sound_always (Err x) ss ts who count sound seat ok err inline = sound_still ss ts sound err inline
 
 -- ---- a number leaves
 
-pub left_is : (ss ts : List Seat) → AreApart ss → (who : ℕ) → ts ≡ left_by who ss → Leaves (table_of ss) (table_of ts) who
+pub left_is : (ss ts : List Seat) → AreApart ss → (who : ℕ) → ts ≡ left_by who ss → Leaves (seats_table ss) (seats_table ts) who
 left_is ss ts apart who is = record {
-  holds = same_map hold_total hold_exact (table_of ts).holds (finite.retain_keys (table_of ss).holds (λ hold. not (hold.1 == who))) (λ q. at q.0 q.1);
-  rooms = same_map nat_cmp_total nat_cmp-IsAntisymmetric (table_of ts).rooms (finite.remove (table_of ss).rooms who) (λ w.
+  holds = same_map hold_total hold_exact (seats_table ts).holds (finite.retain_keys (seats_table ss).holds (λ hold. not (hold.1 == who))) (λ q. at q.0 q.1);
+  rooms = same_map nat_cmp_total nat_cmp-IsAntisymmetric (seats_table ts).rooms (finite.remove (seats_table ss).rooms who) (λ w.
       rooms_of-table ts w
       ∙ (ap (λ l. places_in (seat_of l w)) is ∙ (ap places_in (seat_of-left who ss w) ∙ (gone (eqb w who) (seat_of ss w)
       ∙ (ap (λ b. cond b None (places_in (seat_of ss w))) (sym (nat_ties w who))
-      ∙ sym (get-remove nat_cmp_total (table_of ss).rooms who w ∙ ap (cond (eq_by_cmp nat_cmp w who) None) (rooms_of-table ss w)))))));
+      ∙ sym (get-remove nat_cmp_total (seats_table ss).rooms who w ∙ ap (cond (eq_by_cmp nat_cmp w who) None) (rooms_of-table ss w)))))));
 }
   where
     gone : (b : Bool) (o : Option Grants) → places_in (cond b None o) ≡ cond b None (places_in o)
@@ -505,14 +505,14 @@ left_is ss ts apart who is = record {
     pick k true g = refl
     pick k false g = refl
 
-    at : (k : LockKey) (w : ℕ) → mode_of (table_of ts) w k ≡ finite.get (finite.retain_keys (table_of ss).holds (λ hold. not (hold.1 == who))) (k, w)
+    at : (k : LockKey) (w : ℕ) → mode_of (seats_table ts) w k ≡ finite.get (finite.retain_keys (seats_table ss).holds (λ hold. not (hold.1 == who))) (k, w)
     at k w =
-        ap (λ l. mode_of (table_of l) w k) is
+        ap (λ l. mode_of (seats_table l) w k) is
         ∙ mode_of-table (left_by who ss) (apart-left who ss apart) w k
         ∙ ap (λ g. mode_in g.holds k) (grants_of-left who ss w)
         ∙ pick k (eqb w who) (grants_of ss w)
         ∙ ap (λ o. cond (not (w == who)) o None) (sym (mode_of-table ss apart w k))
-        ∙ sym (get-left (table_of ss).holds who (k, w))
+        ∙ sym (get-left (seats_table ss).holds who (k, w))
 
 kept_some : (b : Bool) (o : Option Mode) (m : Mode) → cond (not b) o None ≡ Some m → (b ≡ false) × (o ≡ Some m)
 kept_some true o m is = absurd (some_none m (sym is))
@@ -523,7 +523,7 @@ left_consistent s t who leaves consistent k v w m n ne here there =
     let old : (w : ℕ) (m : Mode) → mode_of t w k ≡ Some m → mode_of s w k ≡ Some m = λ w m is. (kept_some (w == who) (mode_of s w k) m (sym (ap (λ h. finite.get h (k, w)) leaves.holds ∙ get-left s.holds who (k, w)) ∙ is)).1 in
     consistent k v w m n ne (old v m here) (old w n there)
 
-pub left_sound : (ss ts : SmallVec Seat) (who : ℕ) → IsSound ss → Leaves (table_of ss.items) (table_of ts.items) who → ts.items ≡ left_by who ss.items → ts.capacity ≡ ss.capacity → IsSound ts
+pub left_sound : (ss ts : SmallVec Seat) (who : ℕ) → AreSeats ss → Leaves (seats_table ss.items) (seats_table ts.items) who → ts.items ≡ left_by who ss.items → ts.capacity ≡ ss.capacity → AreSeats ts
 left_sound ss ts who sound leaves is inline =
     let size = ap length is in
     let fewer = length-left who ss.items in
@@ -535,10 +535,10 @@ left_sound ss ts who sound leaves is inline =
       used = λ w here.
           let kept = stays w (eqb w who) refl here in
           elim (sound.used w kept.1) [
-            | inl some ↦ inl (subst (λ n. 0 < n) (sym (ap (λ l. room_of (table_of l) w) is ∙ (room_of-table (left_by who ss.items) w ∙ (ap (λ g. g.places) (same w kept.0) ∙ sym (room_of-table ss.items w))))) some)
-            | inr held ↦ inr (held.0, held.1, ap (λ l. mode_of (table_of l) w held.0) is ∙ (mode_of-table (left_by who ss.items) (apart-left who ss.items sound.apart) w held.0 ∙ (ap (λ g. mode_in g.holds held.0) (same w kept.0) ∙ (sym (mode_of-table ss.items sound.apart w held.0) ∙ held.2))))
+            | inl some ↦ inl (subst (λ n. 0 < n) (sym (ap (λ l. room_of (seats_table l) w) is ∙ (room_of-table (left_by who ss.items) w ∙ (ap (λ g. g.places) (same w kept.0) ∙ sym (room_of-table ss.items w))))) some)
+            | inr held ↦ inr (held.0, held.1, ap (λ l. mode_of (seats_table l) w held.0) is ∙ (mode_of-table (left_by who ss.items) (apart-left who ss.items sound.apart) w held.0 ∙ (ap (λ g. mode_in g.holds held.0) (same w kept.0) ∙ (sym (mode_of-table ss.items sound.apart w held.0) ∙ held.2))))
           ];
-      consistent = left_consistent (table_of ss.items) (table_of ts.items) who leaves sound.consistent;
+      consistent = left_consistent (seats_table ss.items) (seats_table ts.items) who leaves sound.consistent;
     }
   where
     same : (w : ℕ) → eqb w who ≡ false → grants_of (left_by who ss.items) w ≡ grants_of ss.items w
@@ -557,11 +557,11 @@ nothing_apart : AreApart []
 unfolding IsDistinct
 nothing_apart = tt
 
-pub new_consistent : (ss : List Seat) → ss ≡ [] → IsConsistent (table_of ss)
+pub new_consistent : (ss : List Seat) → ss ≡ [] → IsConsistent (seats_table ss)
 new_consistent ss none k v w m n ne here there =
-    absurd (some_none m (sym (ap (λ l. mode_of (table_of l) v k) (sym none) ∙ here) ∙ mode_of-table [] nothing_apart v k))
+    absurd (some_none m (sym (ap (λ l. mode_of (seats_table l) v k) (sym none) ∙ here) ∙ mode_of-table [] nothing_apart v k))
 
-pub new_sound : (ss : SmallVec Seat) → ss.items ≡ [] → ss.capacity ≡ MAX_NUMBERS → IsSound ss
+pub new_sound : (ss : SmallVec Seat) → ss.items ≡ [] → ss.capacity ≡ MAX_NUMBERS → AreSeats ss
 new_sound ss none cap =
     let size = ap length none in
     record {

@@ -24,8 +24,8 @@ holds_in seats = flat_map holds_at seats
 abbrev pub rooms_in : List Seat → List (ℕ × ℕ)
 rooms_in seats = map (λ s. (s.who, s.holdings.places)) seats
 
-abbrev pub table_of : List Seat → Table
-table_of seats = record {
+abbrev pub seats_table : List Seat → Table
+seats_table seats = record {
   holds = finite.from_entries (holds_in seats);
   rooms = finite.from_entries (rooms_in seats);
 }
@@ -90,10 +90,11 @@ abbrev pub IsLeastOf : List ℕ → Option ℕ → Type 0
 IsLeastOf ns least = MatchOption least (ns ≡ []) (λ w. Contains ns w × All (λ v. w ≤ v) ns)
 
 -- what is so of the numbers of every key table
-pub record IsSound (seats : SmallVec Seat) : Type 0 where
+pub record AreSeats (seats : SmallVec Seat) : Type 0 where
   pub apart : IsDistinct nat_eq (map (λ s. s.who) seats.items)
   pub few : length seats.items ≤ MAX_NUMBERS
   pub inline : seats.capacity ≡ MAX_NUMBERS
   -- whoever is in the list holds a key or may take one
-  pub used : (who : ℕ) → is_some (seat_of seats.items who) ≡ true → IsListed (table_of seats.items) who
-  pub consistent : IsConsistent (table_of seats.items)
+  pub used : (who : ℕ) → is_some (seat_of seats.items who) ≡ true →
+      IsListed (seats_table seats.items) who
+  pub consistent : IsConsistent (seats_table seats.items)

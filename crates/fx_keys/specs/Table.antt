@@ -25,9 +25,10 @@ pub record Table : Type 0 where
   pub rooms : map.FinMap nat_cmp ℕ
 
 -- a table is stored as its two maps
-abbrev pub table_code : Coded LockKey → Coded Mode → Coded Table
-table_code key mode =
-    code_by (map.FinMap hold_cmp Mode × map.FinMap nat_cmp ℕ) (coded× (map.code (coded× key coded_ℕ) mode) (map.code coded_ℕ coded_ℕ))
+abbrev pub key_table_code : Coded LockKey → Coded Mode → Coded Table
+key_table_code key mode =
+    code_by (map.FinMap hold_cmp Mode × map.FinMap nat_cmp ℕ)
+    (coded× (map.code (coded× key coded_ℕ) mode) (map.code coded_ℕ coded_ℕ))
     (λ t. (t.holds, t.rooms)) (λ p. record { holds = p.0; rooms = p.1 }) (λ _. refl)
 
 abbrev pub empty_table : Table
@@ -43,26 +44,33 @@ room_of table who = unwrap_or (map.get table.rooms who) 0
 
 -- no two numbers hold a key in modes that conflict
 abbrev pub IsConsistent : Table → Type 0
-IsConsistent table = (key : LockKey) (v w : ℕ) (m n : Mode) → v ≢ w → mode_of table v key ≡ Some m → mode_of table w key ≡ Some n → are_conflicting m n ≢ true
+IsConsistent table = (key : LockKey) (v w : ℕ) (m n : Mode) → v ≢ w →
+    mode_of table v key ≡ Some m → mode_of table w key ≡ Some n → are_conflicting m n ≢ true
 
 -- it holds a key, or may take one
 abbrev pub IsListed : Table → ℕ → Type 0
-IsListed table who = (0 < room_of table who) ⊎ ((key : LockKey) × (mode : Mode) × (mode_of table who key ≡ Some mode))
+IsListed table who =
+    (0 < room_of table who)
+    ⊎ ((key : LockKey) × (mode : Mode) × (mode_of table who key ≡ Some mode))
 
 -- fewer than 32 other numbers hold a key or may take one
 abbrev pub HasSeatFor : Table → ℕ → Type 0
-HasSeatFor table who = (others : List ℕ) → IsDistinct nat_eq others → All (λ w. (w ≢ who) × IsListed table w) others → length others < MAX_NUMBERS
+HasSeatFor table who = (others : List ℕ) → IsDistinct nat_eq others →
+    All (λ w. (w ≢ who) × IsListed table w) others → length others < MAX_NUMBERS
 
 -- each key of the number's is below the key
 abbrev pub IsAboveKeysOf : Table → ℕ → LockKey → Type 0
-IsAboveKeysOf table who key = (k : LockKey) (m : Mode) → mode_of table who k ≡ Some m → key_cmp k key ≡ Less
+IsAboveKeysOf table who key =
+    (k : LockKey) (m : Mode) → mode_of table who k ≡ Some m → key_cmp k key ≡ Less
 
 -- no smaller key of the number's is still held for a change
 abbrev pub IsNextToRaise : Table → ℕ → LockKey → Type 0
-IsNextToRaise table who key = (k : LockKey) → key_cmp k key ≡ Less → mode_of table who k ≢ Some Change
+IsNextToRaise table who key =
+    (k : LockKey) → key_cmp k key ≡ Less → mode_of table who k ≢ Some Change
 
 -- the number holds the key, and its hold keeps `who` from holding the key in this mode
-pub record Blocks (table : Table) (who : ℕ) (key : LockKey) (mode : Mode) (other : ℕ) : Type 0 where
+pub record HoldsOff (table : Table) (who : ℕ) (key : LockKey) (mode : Mode) (other : ℕ)
+    : Type 0 where
   pub apart : other ≢ who
   pub held : Mode
   pub holds : mode_of table other key ≡ Some held
@@ -102,8 +110,9 @@ pub record Leaves (old new : Table) (who : ℕ) : Type 0 where
 
 -- what `ask` answers: Held where no other is in the way, else Busy with the least that is, and then nothing changed
 abbrev pub AskGives : Table → ℕ → LockKey → Mode → Asked → Table → Type 0
-AskGives old who key mode Held new = ((w : ℕ) → ¬ (Blocks old who key mode w)) × Gains old new who key mode
-AskGives old who key mode (Busy w) new = IsLeast (Blocks old who key mode) w × (new ≡ old)
+AskGives old who key mode Held new =
+    ((w : ℕ) → ¬ (HoldsOff old who key mode w)) × Gains old new who key mode
+AskGives old who key mode (Busy w) new = IsLeast (HoldsOff old who key mode) w × (new ≡ old)
 
 -- what `raise` answers: Held where no other reads, else Busy with the least that does, and then nothing changed
 abbrev pub RaiseGives : Table → ℕ → LockKey → Asked → Table → Type 0

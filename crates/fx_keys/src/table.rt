@@ -33,17 +33,17 @@ pub struct KeyTable {
 impl Model for KeyTable {
     ghost use Rattle.fx_item.specs.contracts.lock.LockKey as lock_key;
     ghost use Rattle.fx_item.specs.contracts.lock.Mode as lock_mode;
-    ghost use Rattle.fx_keys.specs.Table.{Table, table_code};
+    ghost use Rattle.fx_keys.specs.Table.{Table, key_table_code};
 
     ghost Value = { Table };
 
-    ghost coded = { table_code lock_key.the_row.coded lock_mode.the_row.coded };
+    ghost coded = { key_table_code lock_key.the_row.coded lock_mode.the_row.coded };
 
-    ghost use Rattle.fx_keys.specs.Seats.{table_of, IsSound};
+    ghost use Rattle.fx_keys.specs.Seats.{seats_table, AreSeats};
 
-    ghost view = { λ t. table_of t.seats.items };
+    ghost view = { λ t. seats_table t.seats.items };
 
-    ghost invariant = { λ t. IsSound t.seats };
+    ghost invariant = { λ t. AreSeats t.seats };
 }
 
 impl KeyTable {

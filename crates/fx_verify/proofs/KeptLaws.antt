@@ -3,11 +3,11 @@ use Rattle.std.proofs.Common.{◌≡◌, ◌≢◌, ℕ, zero, suc, ◌+◌, ◌
 use Rattle.std.specs.List.{Contains, fold, list_any, list_all, flat_map}
 use Rattle.std.proofs.lemmas.Bool.{cases_lt, eqb-false, and_parts, and_from}
 use Rattle.fx_item.specs.Item.{PlainItem}
-use Rattle.fx_verify.specs.Kept.{written_by, is_freed_by, last_stated, after_items, live_sum, Passes, IsKept}
+use Rattle.fx_verify.specs.Kept.{written_by, is_freed_by, last_stated, after_items, live_sum, Passes, IsKeptNumber}
 
 -- ---- only one
 
-pub one : (base : ℕ) (txns : List (ℕ × List PlainItem)) (found : List (ℕ × ℕ)) (j k : ℕ) → IsKept base txns found j → IsKept base txns found k → j ≡ k
+pub one : (base : ℕ) (txns : List (ℕ × List PlainItem)) (found : List (ℕ × ℕ)) (j k : ℕ) → IsKeptNumber base txns found j → IsKeptNumber base txns found k → j ≡ k
 one base txns found j k a b =
     elim (cases_lt j k) [
       | inl less ↦ absurd (a.greatest k less b.most b.passes)
@@ -38,7 +38,7 @@ stated_among b x [] old e = inr e
 stated_among b x (p ∷ ps) old e =
     elim (p.0 == b) as (λ t. (p.0 == b) ≡ t → last_stated b ps (cond t (Some p.1) old) ≡ Some x → Among b (p ∷ ps) ⊎ (old ≡ Some x)) [
       | true ↦ λ same _. inl (Here (eqb-true p.0 b same))
-      | false ↦ λ _ rest. elim (stated_among b x ps old rest) [ | inl a ↦ inl (Later a) | inr o ↦ inr o ]
+      | false ↦ λ _ rest. elim (stated_among b x ps old rest) [ inl a ↦ inl (Later a) | inr o ↦ inr o ]
     ] refl e
 
 -- all that the transactions state
@@ -97,7 +97,7 @@ contained (p ∷ ps) q =
       | inl same ↦ inl (zero, omega arith, same)
       | inr ne ↦ elim (contained ps q) [
         | inl there ↦ inl (contains_cons p q ps there)
-        | inr miss ↦ inr (λ c. elim (contains_or p q ps c) [ | inl same ↦ ne same | inr there ↦ miss there ])
+        | inr miss ↦ inr (λ c. elim (contains_or p q ps c) [ inl same ↦ ne same | inr there ↦ miss there ])
       ]
     ]
 
@@ -146,26 +146,32 @@ passes_or_not ts found =
 nothing_passes : (found : List (ℕ × ℕ)) → Passes [] found
 nothing_passes found b x is = absurd (none_some x is)
 
-search_down : (base : ℕ) (txns : List (ℕ × List PlainItem)) (found : List (ℕ × ℕ)) (n : ℕ) → n ≤ length txns → ((j : ℕ) → base + n < j → j ≤ base + length txns → Passes (take (j - base) txns) found → ⊥) → (k : ℕ) × IsKept base txns found k
-search_down base txns found zero le above = (base + 0, record {
-  least = omega arith;
-  most = omega arith;
-  passes = let none : 0 ≡ base + 0 - base = omega arith in subst (λ m. Passes (take m txns) found) none (nothing_passes found);
-  greatest = above;
-})
+search_down : (base : ℕ) (txns : List (ℕ × List PlainItem)) (found : List (ℕ × ℕ)) (n : ℕ) → n ≤ length txns → ((j : ℕ) → base + n < j → j ≤ base + length txns → Passes (take (j - base) txns) found → ⊥) → (k : ℕ) × IsKeptNumber base txns found k
+search_down base txns found zero le above = (
+  base + 0,
+  record {
+    least = omega arith;
+    most = omega arith;
+    passes = let none : 0 ≡ base + 0 - base = omega arith in subst (λ m. Passes (take m txns) found) none (nothing_passes found);
+    greatest = above;
+  },
+)
 search_down base txns found (suc n) le above =
     elim (passes_or_not (take (suc n) txns) found) [
-      | inl holds ↦ (base + suc n, record {
-        least = omega arith;
-        most = omega arith;
-        passes = let so_many : suc n ≡ base + suc n - base = omega arith in subst (λ m. Passes (take m txns) found) so_many holds;
-        greatest = above;
-      })
+      | inl holds ↦ (
+        base + suc n,
+        record {
+          least = omega arith;
+          most = omega arith;
+          passes = let so_many : suc n ≡ base + suc n - base = omega arith in subst (λ m. Passes (take m txns) found) so_many holds;
+          greatest = above;
+        },
+      )
       | inr miss ↦ search_down base txns found n (omega arith) (λ j more most passes. elim (cases_lt (base + suc n) j) [
         | inl past ↦ above j past most passes
         | inr here ↦ let so_many : j - base ≡ suc n = omega arith in miss (subst (λ m. Passes (take m txns) found) so_many passes)
       ])
     ]
 
-pub exists : (base : ℕ) (txns : List (ℕ × List PlainItem)) (found : List (ℕ × ℕ)) → (k : ℕ) × IsKept base txns found k
+pub exists : (base : ℕ) (txns : List (ℕ × List PlainItem)) (found : List (ℕ × ℕ)) → (k : ℕ) × IsKeptNumber base txns found k
 exists base txns found = search_down base txns found (length txns) (omega arith) (λ j more most _. absurd (omega arith))

@@ -15,8 +15,8 @@ sums_under (ExtentKey store id start stop) (ExtentValue block sums) = with_sums 
 sums_under _ _ = []
 
 -- the blocks of an extent, each with the sum that is stated for it
-abbrev pub sums_of : PlainItem → List (ℕ × ℕ)
-sums_of x = sums_under x.key x.value
+abbrev pub block_sums_of : PlainItem → List (ℕ × ℕ)
+block_sums_of x = sums_under x.key x.value
 
 abbrev pub is_taken_under : ℕ → PlainKey → PlainValue → Bool
 is_taken_under block (AllocationKey start stop) TakenValue = nat_le start block && nat_lt block stop
@@ -35,7 +35,7 @@ is_freed_by items block = list_any (λ x. is_freed_under block x.key x.value) it
 
 -- The blocks that the transaction writes, each with its sum: those of its extents that it takes.
 abbrev pub written_by : List PlainItem → List (ℕ × ℕ)
-written_by items = filter (λ p. is_taken_by items p.0) (flat_map sums_of items)
+written_by items = filter (λ p. is_taken_by items p.0) (flat_map block_sums_of items)
 
 -- ---- transactions one after another
 
@@ -61,7 +61,8 @@ abbrev pub Passes : List (ℕ × List PlainItem) → List (ℕ × ℕ) → Type 
 Passes txns found = (block sum : ℕ) → live_sum txns block ≡ Some sum → Contains found (block, sum)
 
 -- The greatest number up to which they pass. A number that fails may stand below it.
-pub record IsKept (base : ℕ) (txns : List (ℕ × List PlainItem)) (found : List (ℕ × ℕ)) (k : ℕ) : Type 0 where
+pub record IsKeptNumber (base : ℕ) (txns : List (ℕ × List PlainItem)) (found : List (ℕ × ℕ)) (k : ℕ)
+    : Type 0 where
   pub least : base ≤ k
   pub most : k ≤ base + length txns
   pub passes : Passes (take (k - base) txns) found
@@ -72,9 +73,9 @@ pub record IsKept (base : ℕ) (txns : List (ℕ × List PlainItem)) (found : Li
 -- there is such a number
 abbrev pub KeptExists : Type 0
 KeptExists = (base : ℕ) (txns : List (ℕ × List PlainItem)) (found : List (ℕ × ℕ)) →
-    (k : ℕ) × IsKept base txns found k
+    (k : ℕ) × IsKeptNumber base txns found k
 
 -- and no other
 abbrev pub KeptIsOne : Type 0
 KeptIsOne = (base : ℕ) (txns : List (ℕ × List PlainItem)) (found : List (ℕ × ℕ)) (j k : ℕ) →
-    IsKept base txns found j → IsKept base txns found k → j ≡ k
+    IsKeptNumber base txns found j → IsKeptNumber base txns found k → j ≡ k
