@@ -94,10 +94,6 @@ module _ (size count : ℕ) (tree : Tree) (base : ℕ) (super : Fields) (read : 
   abbrev j : Journal
   j = new_journal size count tree base super read place txns
 
-  -- the same where the record's own count stands for the disk's
-  abbrev Here : (DiskRecord → Type 0) → DiskRecord → Type 0
-  Here P r = (n : ℕ) → length r.calls ≡ n → IsJournal (new_journal size n tree base super read place txns) calls → P r
-
   pub told-read : IfSome before (HasJournal (new_journal size count tree base super read place txns))
   told-read = told-map (Known size count (ReadsAs which super read place)) (HasJournal j) before
       (λ r k. by r count k.0.counted h k.0 k.1) (known size count (ReadsAs which super read place) before is reads)

@@ -140,18 +140,6 @@ module _ (j : Journal) (count : ℕ) (told : Option DiskRecord) (ring : RingStat
             ring_is = record { sequence = m.ring_is.sequence; size = m.ring_is.size; epoch = m.ring_is.epoch; closed = m.ring_is.closed; chain = m.ring_is.chain; text = m.ring_is.text; queue = m.ring_is.queue };
           }
 
-  -- ---- all is written
-
-  -- the numbers of blocks that wait are low
-  pub mounted-low : number (first_place ring) < 2 ^ 63
-  mounted-low =
-      let reading = m.journal.reading in
-      let at : j.log.head.place.sequence ≡ j.log.head.super.sequence + length j.log.head.read = series-next j.log.head.super.generation (start_of j.log.head.super) j.log.head.place j.log.head.read reading.head.series in
-      omega (arith, first-is j.log (log-is j count m.journal) ring region m.ring_is, at, reading.head.rules.sequence_below, reading.head.rules.ring_most, m.journal.tail.closed.room, m.journal.tail.most)
-
-  pub mounted-out : (before : ℕ) → 2 ^ 63 ≤ before → next_block ring before ≡ None → ring.text ≡ [] → IsWrittenOut j.log.tail
-  mounted-out before high none empty = all-written j.log (log-is j count m.journal) ring region m.ring_is (none-waits j.log (log-is j count m.journal) ring region m.ring_is before none (omega (arith, mounted-low))) empty
-
   -- ---- what a stop leaves
 
   -- now, where all is settled

@@ -198,9 +198,6 @@ module _ (m : ItemMap) (step : Step) (items : List PlainItem) (id store : ℕ) (
       let same = written_numbers node id store low.0 low.1 in
       subst RiseByOne (sym is) (omega (arith, same.0), omega (arith, same.1))
 
-  pub step_below : AreItemsOf m id store step items → IsBelow (after m items) (id + 1) (store + 1)
-  step_below are = let rise = step_numbers are in below_more (after m items) (next_id id items) (next_store store items) (id + 1) (store + 1) rise.0 rise.1 (below_after m id store items b)
-
 -- ---- a log with one step more
 
 -- the tree after an entry of one step that is done

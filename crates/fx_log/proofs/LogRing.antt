@@ -115,10 +115,6 @@ padding-text : (ring : RingState) (text : List ℕ) → texts (padding_by ring t
 padding-text ring [] = refl
 padding-text ring (_ ∷ _) = append-nil ((ring.text ++ []) ++ []) ∙ append-nil (ring.text ++ []) ∙ append-nil ring.text
 
-padded-text : (ring : RingState) (text : List ℕ) → ring.text ≡ text → (padded_by ring text).text ≡ []
-padded-text ring [] e = e
-padded-text ring (_ ∷ _) e = refl
-
 module _ (l : Log) (h : IsLog l) (ring : RingState) (region : Region) (of : IsRingOf l ring region)
     (new : RingState) (pool : Region) (is : IsRing new) (e : new ≡ padded ring) (holds : HoldsQueue new pool (drop l.tail.written l.tail.blocks ++ padding ring)) where
   padding-start : new.start ≡ ring.start
@@ -145,25 +141,11 @@ module _ (l : Log) (h : IsLog l) (ring : RingState) (region : Region) (of : IsRi
   pub padding-ring : IsRingOf (closed_log l (padding ring) new.chain new.text) new pool
   padding-ring = ring-of-closed l h ring region of new pool (padding ring) is padding-start padding-size padding-epoch padding-queued holds padding-on
 
--- the unfinished block holds nothing then
-pub padded-empty : (ring new : RingState) → new ≡ padded ring → new.text ≡ []
-padded-empty ring new e = ap (λ (x : RingState). x.text) e ∙ padded-text ring ring.text refl
-
 -- ---- the first block that is not written is written
 
 found-next : (t : Bool) (x s : ℕ) → (if t then Some x else None) ≡ Some s → x ≡ s
 found-next true x s e = same_Some x s e
 found-next false x s e = cc e
-
-not-found : (t : Bool) (x : ℕ) → t ≡ true → (if t then Some x else None) ≡ None → ⊥
-not-found true x is e = absurd (cc)
-not-found false x is e = absurd (cc)
-
-none-queued : (n x before : ℕ) → (if nat_lt 0 n && nat_lt x before then Some x else None) ≡ None → x < before → n ≡ 0
-none-queued n x before e lt = elim (cases_lt 0 n) [
-  | inl some ↦ absurd (not-found (nat_lt 0 n && nat_lt x before) x (and_from (nat_lt 0 n) (nat_lt x before) (lt-ltb 0 n some) (lt-ltb x before lt)) e)
-  | inr none ↦ omega (arith, none)
-]
 
 module _ (l : Log) (h : IsLog l) (ring : RingState) (region : Region) (of : IsRingOf l ring region) where
   module _ (before sequence : ℕ) (next : next_block ring before ≡ Some sequence) where
@@ -209,13 +191,6 @@ module _ (l : Log) (h : IsLog l) (ring : RingState) (region : Region) (of : IsRi
     text = ap (λ (x : RingState). x.text) e ∙ of.text;
     queue = subst (HoldsQueue new pool) (drop-one l.tail.written l.tail.blocks) holds;
   }
-
-  -- no block waits below a bound that is past all of them
-  pub none-waits : (before : ℕ) → next_block ring before ≡ None → number (first_place ring) < before → l.tail.written ≡ length l.tail.blocks
-  none-waits before none lt = omega (arith, none-queued ring.queued (number (first_place ring)) before none lt, waiting l h ring region of)
-
-  pub all-written : l.tail.written ≡ length l.tail.blocks → ring.text ≡ [] → IsWrittenOut l.tail
-  all-written all none = record { written = all; text = sym of.text ∙ none }
 
 -- a write at a place with bytes is one at an equal place with equal bytes
 pub made-as : (before after : ℕ) (last ok : Bool) (told now : Option DiskRecord) (at place : ℕ) (bytes block : List ℕ) (keeps : Type 0) → at ≡ place → bytes ≡ block

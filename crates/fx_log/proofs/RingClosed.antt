@@ -63,24 +63,6 @@ rules-begun r from f image read place began = began.chosen.1.is_super.rules
 pub place-begun : (r : DiskRecord) (from : ℕ) (f : Fields) (image : List (List ℕ)) (read : List StreamBlock) (place : Start) → BeganWith r from f image read place → place.sequence ≡ f.sequence + length read
 place-begun r from f image read place began = run_next image f.ring f.generation (start_of f) place read began.stream.run
 
--- the ring lies on the disk
-pub room-begun : (r : DiskRecord) (from : ℕ) (f : Fields) (image : List (List ℕ)) (read : List StreamBlock) (place : Start) → BeganWith r from f image read place → (1 ≤ f.ring) × (f.ring + 2 ≤ length r.entry)
-room-begun r from f image read place began =
-    let rules : KeepsRules f = rules-begun r from f image read place began in
-    (omega (arith, rules.ring_least), omega (arith, rules.blocks_least, began.blocks))
-
--- No block was closed yet.
-pub closed-begun : (r : DiskRecord) (from : ℕ) (f : Fields) (image : List (List ℕ)) (read : List StreamBlock) (place : Start) → BeganWith r from f image read place → AreClosed f read place [] place.chain
-closed-begun r from f image read place began = record {
-  records = λ k d lt. absurd (omega arith);
-  first = refl;
-  linked = tt;
-  room = omega (arith, began.stream.few);
-  low =
-      let rules : KeepsRules f = rules-begun r from f image read place began in
-      omega (arith, place-begun r from f image read place began, began.stream.few, rules.ring_most, rules.sequence_below);
-}
-
 -- Further blocks follow those that were closed.
 pub closed-more : (f : Fields) (read : List StreamBlock) (place : Start) (blocks more : List Queued) (middle chain : ℕ) → AreClosed f read place blocks middle
     → All HasRecords more → first_chain more chain ≡ middle → IsLinked (f.generation + 1) (place.sequence + length blocks) more chain → length read + length blocks + length more ≤ f.ring
@@ -92,17 +74,6 @@ closed-more f read place blocks more middle chain closed records first linked ro
   room = omega (arith, room, length-append blocks more);
   low = closed.low;
 }
-
--- One block follows them.
-pub closed-one : (f : Fields) (read : List StreamBlock) (place : Start) (blocks : List Queued) (q : Queued) → AreClosed f read place blocks q.chain
-    → HasRecords q → q.sequence ≡ number (place.sequence + length blocks) → length read + length blocks < f.ring
-    → AreClosed f read place (blocks ++ q ∷ []) (chain_after (f.generation + 1) q)
-closed-one f read place blocks q closed records sequence room =
-    closed-more f read place blocks (q ∷ []) q.chain (chain_after (f.generation + 1) q) closed (one records) refl (sequence, refl, tt) (omega arith)
-  where
-    one : HasRecords q → All HasRecords (q ∷ [])
-    one h zero d lt = h
-    one h (suc k) d lt = absurd (omega arith)
 
 -- the chain after blocks that follow each other is known from the last of them
 pub one_chain : (epoch m n : ℕ) (q : Queued) (qs : List Queued) (c d : ℕ) → IsLinked epoch m (q ∷ qs) c → IsLinked epoch n (q ∷ qs) d → c ≡ d
@@ -132,16 +103,6 @@ closed-appended f read place front queue more old region ring closed holds epoch
         → (waiting ≡ [] → first_chain more ring.chain ≡ old) → first_chain more ring.chain ≡ old
     goes_on [] one other none = none refl
     goes_on (q ∷ qs) one other none = one_chain (f.generation + 1) (place.sequence + length front) (place.sequence + length front) q qs (first_chain more ring.chain) old one other
-
--- The first blocks of those that were closed.
-pub closed-front : (f : Fields) (read : List StreamBlock) (place : Start) (blocks more : List Queued) (chain : ℕ) → AreClosed f read place (blocks ++ more) chain → AreClosed f read place blocks (first_chain more chain)
-closed-front f read place blocks more chain closed = record {
-  records = λ k d lt. subst HasRecords (get_or_append_left blocks more d k lt) (closed.records k d (omega (arith, length-append blocks more)));
-  first = sym (first_chain-joined blocks more chain) ∙ closed.first;
-  linked = linked-front (f.generation + 1) place.sequence blocks more chain closed.linked;
-  room = omega (arith, closed.room, length-append blocks more);
-  low = closed.low;
-}
 
 -- The ring once further blocks are closed, of which none is written.
 module _ (r : DiskRecord) (from : ℕ) (f : Fields) (image : List (List ℕ)) (read : List StreamBlock) (place : Start) (began : BeganWith r from f image read place)

@@ -181,11 +181,3 @@ module _ (r : DiskRecord) (from : ℕ) (f : Fields) (first : List (List ℕ)) (r
         stream = ended_run image f.ring epoch (start_of f) lead.next whole (omega (arith, rules.generation_most)) (omega (arith, rules.sequence_below, rules.ring_most)) run-whole
             (omega (arith, length-whole, lead.most, closed.room)) ended;
       }
-
--- Where all closed blocks were settled, the stream is all that was read and closed.
-pub stream-all : (image : List (List ℕ)) (f : Fields) (read : List StreamBlock) (blocks : List Queued) → KeepsStream image f read blocks (length blocks)
-    → (next : Start) × IsStream image f.ring (f.generation + 1) (start_of f) (read ++ as_stream (f.generation + 1) blocks) next
-stream-all image f read blocks h =
-    let all : h.count ≡ length blocks = omega (arith, h.least, h.most) in
-    let same : take h.count blocks ≡ blocks = ap (λ (n : ℕ). take n blocks) all ∙ take-length blocks in
-    (h.next, subst (λ (xs : List Queued). IsStream image f.ring (f.generation + 1) (start_of f) (read ++ as_stream (f.generation + 1) xs) h.next) same h.stream)

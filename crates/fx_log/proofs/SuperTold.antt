@@ -60,14 +60,3 @@ module _ (size calls : ℕ) (before : Option DiskRecord) (which : Which) (f : Fi
           subst (λ (o : Option DiskRecord). IfSome o (ChoosesNext calls)) (sym e')
           (subst (λ (n : ℕ). ChoosesNext n (with_flush (with_write r (block_number (other which)) bytes true held) true)) h.counted
           (next-raised size r (subst (λ (n : ℕ). IsRecordOf size n r) (sym h.counted) h) which f is bytes next held))
-
--- further flushes of a mounted disk
-flushes-next : (before after : Option DiskRecord) (from : ℕ) (ok : Bool) → Flushes before after ok → IfSome before (λ r. from ≤ length r.calls) → IfSome before (ChoosesNext from) → IfSome after (ChoosesNext from)
-flushes-next None after from ok e le h = subst (λ (o : Option DiskRecord). IfSome o (ChoosesNext from)) (sym e) tt
-flushes-next (Some r) after from ok e le h = subst (λ (o : Option DiskRecord). IfSome o (ChoosesNext from)) (sym e) (next-flush from r ok le h)
-
-pub told-next : (before after : Option DiskRecord) (from m n : ℕ) (made ok : Bool) → MadeOrNot m n made ok (Flushes before after ok) (after ≡ before)
-    → IfSome before (λ r. from ≤ length r.calls) → IfSome before (ChoosesNext from) → IfSome after (ChoosesNext from)
-told-next before after from m n made ok d le h = ⊎_elim
-    (λ y. flushes-next before after from ok y.done le h)
-    (λ no. subst (λ (o : Option DiskRecord). IfSome o (ChoosesNext from)) (sym no.same) h) d
