@@ -23,7 +23,7 @@ use Rattle.fx_image.proofs.JournalStart.{journal-new}
 use Rattle.fx_log.proofs.LogRaised.{series-next}
 use Rattle.fx_image.proofs.JournalSteps.{log-is, journal-calls, journal-commit, journal-close, journal-write, journal-settle}
 use Rattle.fx_image.proofs.JournalTold.{told-all, told-commit, told-close, told-tried, told-written, told-flush-tried, told-settled}
-use Rattle.fx_log.proofs.LogRing.{first-is, appended, appended-ring, padding-appends, padding-ring, next-queued, next-lt, next-place, next-bytes, written-ring, none-waits, all-written, made-as}
+use Rattle.fx_log.proofs.LogRing.{appended, appended-ring, padding-appends, padding-ring, next-queued, next-lt, next-place, next-bytes, written-ring, made-as}
 use Rattle.fx_disk.proofs.Frames.{no_fewer_calls}
 use Rattle.fx_disk.proofs.Made.{made-counts}
 

@@ -1,10 +1,10 @@
 -- The log of a disk that is being mounted: nothing was appended yet.
-use Rattle.std.proofs.Common.{◌≡◌, ℕ, ◌+◌, ◌≤◌, ◌<◌, Bool, true, false, List, [], ◌∷◌, length, set, sym, subst, ◌∙◌, ap, arith, inl, refl}
+use Rattle.std.proofs.Common.{◌≡◌, ℕ, ◌+◌, ◌≤◌, ◌<◌, Bool, false, List, [], ◌∷◌, length, set, sym, subst, ◌∙◌, ap, arith, inl, refl}
 use Rattle.std.proofs.Math.Seq.{ext_get_or}
 use Rattle.std.proofs.lemmas.List.Elements.{All-nil}
 use Rattle.fx_disk.specs.Record.{Write, DiskRecord, Cell, LeftNow, cell_after, cell_now}
 use Rattle.fx_disk.specs.Began.{BeganAs}
-use Rattle.fx_disk.specs.Steps.{IsRecordOf, with_write, with_flush}
+use Rattle.fx_disk.specs.Steps.{IsRecordOf, with_write}
 use Rattle.fx_disk.proofs.Began.{cell_after-now}
 use Rattle.fx_disk.proofs.Cells.{IsFixed, fixed-after}
 use Rattle.fx_disk.proofs.Kept.{Always-now}
@@ -20,7 +20,7 @@ use Rattle.fx_log.specs.Chance.{NotByChance}
 use Rattle.fx_log.specs.Chosen.{ChoosesEither, next_generation, start_of}
 use Rattle.fx_log.specs.Log.{Log, HasLog, IsHead, IsLog, new_log}
 use Rattle.fx_log.specs.Raising.{LeavesEither}
-use Rattle.fx_log.specs.Ring.{AreClosed, BeganWith, HasRecords}
+use Rattle.fx_log.specs.Ring.{BeganWith, HasRecords}
 use Rattle.fx_log.proofs.LogCalls.{begins-at, begins-call}
 use Rattle.fx_log.proofs.RingCalls.{ring-begun, ring-elsewhere}
 use Rattle.fx_log.proofs.SuperCalls.{since-begun, since-raise}

@@ -3,13 +3,12 @@ use Rattle.std.proofs.Common.{◌≡◌, ℕ, zero, suc, ◌+◌, ◌%◌, ◌�
 use Rattle.std.specs.Prelude.{Some, None, nat_lt, slice_get, Option}
 use Rattle.std.proofs.lemmas.List.{length-take, take-append-drop}
 use Rattle.std.proofs.lemmas.Option.{same_Some, slice_get_cases}
-use Rattle.std.proofs.lemmas.Bool.{and_from, cases_lt, lt-ltb}
 use Rattle.fx_jblock.specs.Block.{journal_block}
 use Rattle.fx_journal.specs.Ring.{RingState, IsRing, Queued, HoldsQueue, Appended, first_place, next_block, number, padded, padded_by, padding, padding_by, texts, without_first, first_chain}
 use Rattle.fx_journal.specs.Writing.{block_at, first_bytes}
 use Rattle.fx_journal.proofs.Writes.{next-waits}
 use Rattle.fx_pool.specs.Region.{Region}
-use Rattle.fx_log.specs.Log.{Log, IsLog, Appends, IsRingOf, IsWrittenOut, closed_log, written_log}
+use Rattle.fx_log.specs.Log.{Log, IsLog, Appends, IsRingOf, closed_log, written_log}
 use Rattle.fx_log.specs.Ring.{AreClosed, place_in, bytes_in}
 use Rattle.fx_log.proofs.LogRaised.{series-next}
 use Rattle.fx_log.proofs.RingClosed.{closed-appended}

@@ -1,5 +1,5 @@
 -- What a log began with, once further calls are made.
-use Rattle.std.proofs.Common.{◌≡◌, ℕ, ◌≤◌, List, length}
+use Rattle.std.proofs.Common.{ℕ, ◌≤◌, List, length}
 use Rattle.fx_disk.specs.Record.{Call, DiskRecord}
 use Rattle.fx_disk.specs.Steps.{with_call}
 use Rattle.fx_disk.proofs.Began.{began_as-after}

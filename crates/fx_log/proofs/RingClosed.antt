@@ -10,7 +10,7 @@ use Rattle.fx_super.specs.Super.{Fields, KeepsRules}
 use Rattle.fx_jblock.specs.declared.Start.{Start}
 use Rattle.fx_pool.specs.Region.{Region, Run}
 use Rattle.fx_journal.specs.declared.stream.StreamBlock.{StreamBlock}
-use Rattle.fx_journal.specs.Ring.{RingState, Queued, IsLinked, AreHeld, HoldsQueue, first_chain, first_place, chain_after, number}
+use Rattle.fx_journal.specs.Ring.{RingState, Queued, IsLinked, AreHeld, HoldsQueue, first_chain, first_place}
 use Rattle.fx_journal.proofs.Runs.{run_next}
 use Rattle.fx_log.specs.Chosen.{start_of}
 use Rattle.fx_log.specs.Ring.{BeganWith, AreClosed, HasRecords, IsTried, IsElsewhere, RingHolds, place_in, bytes_in}

@@ -4,7 +4,6 @@ use Rattle.std.specs.Prelude.{Some, slice_get}
 use Rattle.std.proofs.lemmas.Bool.{cases_lt}
 use Rattle.std.proofs.lemmas.List.{length-append, length-map, length-take}
 use Rattle.std.proofs.lemmas.Option.{slice_get_within, slice_get_cases}
-use Rattle.std.proofs.Math.Seq.{take-length}
 use Rattle.fx_disk.specs.Record.{DiskRecord, Cell, LeftNow, candidates, cell_after, cell_now}
 use Rattle.fx_disk.proofs.Cells.{image-candidate}
 use Rattle.fx_super.specs.Super.{Fields, KeepsRules}

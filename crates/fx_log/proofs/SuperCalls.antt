@@ -1,8 +1,7 @@
 -- The chosen superblock over the calls of a mount and a sync, by one record.
-use Rattle.std.proofs.Common.{◌≡◌, ◌≢◌, ℕ, ◌≤◌, ◌<◌, inl, ⊎_elim, ◌&&◌, not, if◌then◌else◌, List, [], ◌∷◌, ◌++◌, set, Bool, true, false, length, refl, sym, subst, ◌∙◌, ap, arith, Contains, get_or}
+use Rattle.std.proofs.Common.{◌≡◌, ◌≢◌, ℕ, ◌≤◌, ◌<◌, inl, ⊎_elim, List, [], ◌∷◌, ◌++◌, set, Bool, true, false, length, sym, subst, ◌∙◌, ap, arith, Contains, get_or}
 use Rattle.std.proofs.lemmas.Bool.{cases_Bool}
-use Rattle.std.proofs.Math.Seq.{take-length}
-use Rattle.fx_disk.specs.Record.{Call, Write, Flush, DiskRecord, Cell, Left, LeftNow, candidates, cell_first, cell_now, cell_after, settled_cell, written_cell, flushed_cell, after_calls}
+use Rattle.fx_disk.specs.Record.{Call, Write, Flush, DiskRecord, Cell, Left, LeftNow, candidates, cell_now, cell_after, settled_cell, written_cell, flushed_cell}
 use Rattle.fx_disk.specs.Steps.{IsRecordOf, with_call, with_write, with_flush}
 use Rattle.fx_disk.specs.Always.{Always}
 use Rattle.fx_disk.proofs.Left.{Left-now, cell_now-with_call, cell_after-with_call, length-with_call}
@@ -17,7 +16,7 @@ use Rattle.fx_log.specs.Chosen.{next_generation, ChoosesSuper, ChoosesEither}
 use Rattle.fx_log.specs.Raising.{LeavesEither, BeginsAt, ChoosesSince, ChoosesNext}
 use Rattle.fx_super.proofs.Chosen.{one_chosen}
 use Rattle.fx_log.proofs.SuperChoice.{chooses_next, chooses_either}
-use Rattle.fx_disk.proofs.Flushed.{flushed-bytes, flushed-fixed, left-before}
+use Rattle.fx_disk.proofs.Flushed.{flushed-bytes, left-before}
 use Rattle.fx_disk.proofs.Began.{cell_after-now}
 
 -- what began before a call began before it also in the record after it

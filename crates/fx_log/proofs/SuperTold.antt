@@ -1,6 +1,6 @@
 -- The same of what a disk tells, or does not tell.
-use Rattle.std.proofs.Common.{◌≡◌, ℕ, ◌+◌, ◌≤◌, List, Bool, true, length, refl, sym, subst, ⊎_elim}
-use Rattle.std.specs.Prelude.{Option, Some, None, IfSome, Result, Ok, Err, OnOk, is_ok}
+use Rattle.std.proofs.Common.{◌≡◌, ℕ, List, Bool, true, sym, subst, ⊎_elim}
+use Rattle.std.specs.Prelude.{Option, Some, None, IfSome}
 use Rattle.fx_disk.specs.Record.{DiskRecord}
 use Rattle.fx_disk.specs.Steps.{IsRecordOf, Writes, Flushes, MadeOrNot, with_write, with_flush}
 use Rattle.fx_super.specs.Super.{Fields, IsSuper}
@@ -8,7 +8,7 @@ use Rattle.fx_super.specs.Chosen.{IsChosen, block_number, other}
 use Rattle.fx_super.specs.declared.choice.Which.{Which}
 use Rattle.fx_log.specs.Chosen.{next_generation}
 use Rattle.fx_log.specs.Raising.{ChoosesSince, ChoosesNext}
-use Rattle.fx_log.proofs.SuperCalls.{since-begun, since-flush, next-flush, since-raise, next-raised}
+use Rattle.fx_log.proofs.SuperCalls.{since-begun, since-flush, since-raise, next-raised}
 use Rattle.fx_disk.proofs.Made.{IsTold}
 
 -- nothing was written yet

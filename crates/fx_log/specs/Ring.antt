@@ -1,7 +1,7 @@
 -- The ring of a mounted disk: the blocks that its journal began with, and those that were closed since.
-use Rattle.std.specs.Prelude.{◌≡◌, ℕ, ◌+◌, ◌^◌, ◌≤◌, ◌<◌, false, Some, List, [], ◌∷◌, ◌++◌, All, Contains, length, take, drop, map, slice_get, slice_index_or}
+use Rattle.std.specs.Prelude.{◌≡◌, ℕ, ◌+◌, ◌^◌, ◌≤◌, ◌<◌, false, Some, List, [], ◌∷◌, ◌++◌, All, Contains, length, take, drop, map, slice_get}
 use Rattle.fx_disk.specs.Record.{DiskRecord, Cell, candidates, cell_after, cell_now}
-use Rattle.fx_disk.specs.Settled.{WasSettled, IsGoodWrite}
+use Rattle.fx_disk.specs.Settled.{IsGoodWrite}
 use Rattle.fx_super.specs.Super.{Fields}
 use Rattle.fx_jblock.specs.Block.{journal_block}
 use Rattle.fx_jblock.specs.declared.Start.{Start}
