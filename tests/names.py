@@ -18,11 +18,10 @@ EXCEPTIONS = {
 }
 # Names that stand twice and are still to get names of their own.
 TO_COME = {
-    "Blocks", "Call", "DiskSeen", "Flushes", "Gives", "GoesOn", "HasFailed", "Holds", "IsBelow",
-    "IsMade", "IsReady", "IsRefused", "IsSound", "IsWithin", "KeepsOthers", "Knows",
-    "Syncs", "Takes", "bare", "by_path", "bytes_of", "entry_of", "given", "is_synced", "node_at",
-    "node_code", "node_of", "place_after", "read_of", "refused", "spent",
-    "table_code", "table_of", "tree_after", "without",
+    "DiskSeen", "Flushes", "Gives", "GoesOn", "HasFailed", "Holds", "IsBelow", "IsMade",
+    "IsReady", "IsRefused", "IsWithin", "KeepsOthers", "Knows", "Syncs", "Takes", "bare",
+    "by_path", "bytes_of", "entry_of", "is_synced", "node_at", "node_code", "node_of",
+    "place_after", "read_of", "tree_after",
 }
 
 DEFINES = re.compile(
