@@ -111,7 +111,7 @@ module _ (before mid : DiskSeen) (only : HasOnlyRead before mid) (first second :
   abbrev two : List (List ℕ)
   two = a.0 ∷ b.0 ∷ []
 
-  slots-two : AreSlots two first second
+  pub slots-two : AreSlots two first second
   slots-two = record { first_is = a.1; second_is = b.1 }
 
   slots-there : IfSome before.told (λ r. AreSlots r.contents first second)

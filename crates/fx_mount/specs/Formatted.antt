@@ -1,5 +1,5 @@
 -- What a format leaves.
-use Rattle.std.specs.Prelude.{◌≡◌, ℕ, ◌+◌, ◌*◌, ◌<◌, ◌≤◌, List, [], length, replicate, slice_index_or}
+use Rattle.std.specs.Prelude.{◌≡◌, ℕ, ◌+◌, ◌*◌, ◌<◌, ◌≤◌, List, [], length, replicate, slice_index_or, false}
 use Rattle.fx_disk.specs.Record.{DiskRecord, LeftNow}
 use Rattle.fx_disk.specs.Seen.{DiskSeen, HasCalled, HasFailedLast}
 use Rattle.fx_disk.specs.Settled.{IsSettled}

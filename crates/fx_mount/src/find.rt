@@ -112,7 +112,8 @@ fn found_in(
     first: Result<Super, SuperFault>,
     second: Result<Super, SuperFault>,
 ) -> Result<Found, MountFault>
-    requires { 2 ≤ blocks }
+    requires two { 2 ≤ blocks }
+    requires slots { (image : List (List ℕ)) × AreSlots image first second }
     ensures chosen { (image : List (List ℕ)) → AreSlots image first second →
         IfOk result (λ it. IsChosen image it.chosen (fields_of it.sup)) }
     ensures goes_on { (image : List (List ℕ)) → AreSlots image first second →

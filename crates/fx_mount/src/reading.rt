@@ -92,11 +92,12 @@ fn read_contents(alloc: Global, sup: &Super, stream: Stream) -> Result<Contents,
             id: node.id,
         });
     }
-    let (tree, nodes) = tree_of(alloc, &table)?;
+    let made = tree_of(alloc, &table)?;
     let base = sup.base + txns.as_slice().len() as u64;
     if !has_room(sup, base, &table) {
         return Err(MountFault::Cramped(0));
     }
+    let (tree, nodes) = made;
     Ok(Contents {
         closed,
         next,

@@ -8,13 +8,14 @@ use Rattle.fx_item.specs.declared.lock.LockKey.{LockKey}
 use Rattle.fx_namespace.specs.Nodes.{Stands}
 use Rattle.fx_namespace.specs.Wrong.{IsLeastWrong}
 use Rattle.fx_record.specs.Txns as records
-use Rattle.fx_record.specs.Txns.{IsTxns, txns_of}
+use Rattle.fx_record.specs.Txns.{IsTxns, all_bytes, txns_of}
 use Rattle.fx_record.proofs.Sessions.{txns_hold}
 use Rattle.fx_super.specs.Super.{fields_of}
+use Rattle.fx_log.specs.Chosen.{start_of}
 use Rattle.fx_image.specs.Standing.{HasSessionRoom, StandsFor, items_after, kept, stream_pieces}
-use Rattle.fx_mount.proofs.Contents.{knows_after, refused_room, refused_tree, stands_for}
+use Rattle.fx_mount.proofs.Contents.{knows_after, refused_room, refused_tree, series_short, stands_for}
 use Rattle.fx_mount.proofs.reading.read_contents.Goals as goal
-use Rattle.fx_mount.proofs.reading.read_contents.Goals.{In-Ok, In_ok-begun, After-as_slice}
+use Rattle.fx_mount.proofs.reading.read_contents.Goals.{In-Ok, In_ok-made, After-as_slice}
 
 are : (c : In-Ok) → IsTxns c.args.sup.now.base (stream_pieces c.args.stream.blocks) (txns_of c.in-Ok.txns)
 are c = subst (λ (blocks : List (ℕ × List ℕ)). IsTxns c.args.sup.now.base blocks (txns_of c.in-Ok.txns)) (ap records.pieces_of c.deref.ensures.value ∙ c.in_ok-pieces.ensures) c.in-Ok.ensures.answer
@@ -28,9 +29,9 @@ returns-in-Some-clause-refused c size image super stream =
     subst (λ (found : Option LockKey). IfSome found (IsLeastWrong (value_in c.in_ok-table.table.items))) c.in-Some.is c.in_ok-node.ensures.wrong in
     refused_tree (fields_of c.args.sup.now) c.args.stream.blocks (txns_of c.in-Ok.txns) c.in_ok-table.table (are ((goal.at.returns-in-Some-clause-refused c).In-Ok)) c.in_ok-table.ensures size image super stream c.in-Some.node wrong
 
-stands : (c : In_ok-begun) → IsTxns c.args.sup.now.base (stream_pieces c.args.stream.blocks) (txns_of c.in-Ok.txns) → StandsFor (items_after (txns_of c.in-Ok.txns)) c.in_ok-begun.begun.tree
-stands c txns = stands_for (fields_of c.args.sup.now) c.args.stream.blocks (txns_of c.in-Ok.txns) c.in_ok-table.table txns c.in_ok-table.ensures c.in_ok-begun.begun.tree
-    (subst (λ (found : Option LockKey). IfNone found (Stands (value_in c.in_ok-table.table.items))) c.in_default.is c.in_ok-node.ensures.stands) c.in_ok-begun.ensures.tree
+stands : (c : In_ok-made) → IsTxns c.args.sup.now.base (stream_pieces c.args.stream.blocks) (txns_of c.in-Ok.txns) → StandsFor (items_after (txns_of c.in-Ok.txns)) c.in_ok-made.made.0
+stands c txns = stands_for (fields_of c.args.sup.now) c.args.stream.blocks (txns_of c.in-Ok.txns) c.in_ok-table.table txns c.in_ok-table.ensures c.in_ok-made.made.0
+    (subst (λ (found : Option LockKey). IfNone found (Stands (value_in c.in_ok-table.table.items))) c.in_default.is c.in_ok-node.ensures.stands) c.in_ok-made.ensures.tree
 
 same_kept : (c : After-as_slice) → kept (fields_of c.args.sup.now) (txns_of c.in-Ok.txns) ≡ c.args.sup.now.base + length c.as_slice.result.now
 same_kept c =
@@ -40,7 +41,7 @@ same_kept c =
 pub returns-then-not-has_room-clause-refused : goal.returns-then-not-has_room-clause-refused
 returns-then-not-has_room-clause-refused c size image super stream =
     refused_room (fields_of c.args.sup.now) c.args.stream.blocks (txns_of c.in-Ok.txns) c.in_ok-table.table (are ((goal.at.returns-then-not-has_room-clause-refused c).In-Ok)) c.in_ok-table.ensures size image super stream
-    c.in_ok-begun.begun.tree (stands ((goal.at.returns-then-not-has_room-clause-refused c).In_ok-begun) (are ((goal.at.returns-then-not-has_room-clause-refused c).In-Ok)))
+    c.in_ok-made.made.0 (stands ((goal.at.returns-then-not-has_room-clause-refused c).In_ok-made) (are ((goal.at.returns-then-not-has_room-clause-refused c).In-Ok)))
     (λ room. cc (sym c.if-not-has_room.true ∙ (c.has_room.ensures (txns_of c.in-Ok.txns) (same_kept ((goal.at.returns-then-not-has_room-clause-refused c).After-as_slice)) c.in_ok-table.ensures).1 room))
 
 pub returns-clause-room : goal.returns-clause-room
@@ -49,7 +50,18 @@ returns-clause-room c =
     c.if-not-has_room.false
 
 pub returns-clause-stands : goal.returns-clause-stands
-returns-clause-stands c = stands ((goal.at.returns-clause-stands c).In_ok-begun) (are ((goal.at.returns-clause-stands c).In-Ok))
+returns-clause-stands c = stands ((goal.at.returns-clause-stands c).In_ok-made) (are ((goal.at.returns-clause-stands c).In-Ok))
 
 pub returns-clause-nodes : goal.returns-clause-nodes
-returns-clause-nodes c = knows_after (fields_of c.args.sup.now) c.args.stream.blocks (txns_of c.in-Ok.txns) c.in_ok-table.table (are ((goal.at.returns-clause-nodes c).In-Ok)) c.in_ok-table.ensures c.in_ok-begun.begun.nodes c.in_ok-begun.ensures.nodes
+returns-clause-nodes c = knows_after (fields_of c.args.sup.now) c.args.stream.blocks (txns_of c.in-Ok.txns) c.in_ok-table.table (are ((goal.at.returns-clause-nodes c).In-Ok)) c.in_ok-table.ensures c.in_ok-made.made.1 c.in_ok-made.ensures.nodes
+
+pub read_txns-requires : goal.read_txns-requires
+read_txns-requires c =
+    let f = fields_of c.args.sup.now in
+    omega (
+      arith,
+      ap (λ (bs : List (ℕ × List ℕ)). length (all_bytes bs)) (ap records.pieces_of c.deref.ensures.value ∙ c.in_ok-pieces.ensures),
+      series_short f.generation (start_of f) c.args.stream.next c.args.stream.blocks c.requires.series,
+      c.requires.few,
+      c.requires.rules.ring_most,
+    )
