@@ -176,7 +176,7 @@ impl<D: Disk> Store<D> {
     }
 
     /// The number of the last commit.
-    fn number(&self) -> u64
+    pub fn number(&self) -> u64
         ensures number { result ≡ self.now.base + length self.now.history }
         ensures settled { All (λ entry. entry.settled ≤ (D.seen self.now.disk).calls)
             self.now.history }

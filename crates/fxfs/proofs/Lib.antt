@@ -1,7 +1,8 @@
-pub mod Told
-pub mod Going
-pub mod Words
-pub mod Runs
-pub mod Syncing
-pub mod Closes
-pub mod Ends
+pub mod CommandRing
+pub mod FaultsTold
+pub mod FinalFlush
+pub mod LinesTold
+pub mod ListFronts
+pub mod PrintedTexts
+pub mod ShellEnding
+pub mod SyncsTold

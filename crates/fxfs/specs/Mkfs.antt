@@ -2,18 +2,21 @@
 use Rattle.std.specs.Prelude.{◌≡◌, ℕ, ◌≤◌, ◌+◌}
 use Rattle.fx_base.specs.Causes.{Rose}
 use Rattle.fx_disk.specs.Longer.{BothTell}
-use Rattle.fx_mount.specs.Formatted.{IsFormatted, HasRoomFor}
-use Rattle.fx_store.specs.Calls.{HasFailedLast}
+use Rattle.fx_disk.specs.Seen.{DiskSeen, GoesOn, HasFailedLast}
+use Rattle.fx_io.specs.Seen.{SinkSeen, SinkGoesOn}
+use Rattle.fx_mount.specs.Formatted.{IsFormatted, LeavesRoot, HasFormatted, HasRoomFor}
 use Rattle.fxfs.specs.declared.ended.Stop.{Stop}
 use Rattle.fxfs.specs.declared.ended.Stop.TheVariants as stops
 use Rattle.fxfs.specs.Stop.{mkfs_line}
-use Rattle.fxfs.specs.Outside.{DiskSeen, StreamSeen, End, IsIdle, IsStopped, GoesOn, Prints, FailsIn}
+use Rattle.fxfs.specs.Outside.{End, IsIdle, IsStopped, Prints, FailsIn}
 
--- The disk has room for the ring, and was formatted with it.
+-- The disk has room for the ring and was formatted with it, with no fault. If nothing of it was
+-- loose,
+-- every image left now is one to mount, and stands for the root alone.
 pub record IsNowFormatted (ring : ℕ) (before after : DiskSeen) : Type 0 where
-  pub room : HasRoomFor ring before.size
+  pub made : HasFormatted ring before after
   pub formats : BothTell (IsFormatted before.size ring) before.told after.told
-  pub calls : after.calls ≡ before.calls + ring + 4
+  pub root : BothTell (LeavesRoot before.size ring) before.told after.told
 
 -- The disk has no room for the ring, or too many blocks, and is as it was.
 pub record IsUnfit (ring : ℕ) (before after : DiskSeen) (told : ℕ) : Type 0 where
@@ -21,24 +24,30 @@ pub record IsUnfit (ring : ℕ) (before after : DiskSeen) (told : ℕ) : Type 0 
   pub blocks : told ≡ before.size
   pub same : after ≡ before
 
--- The disk has room for the ring, and failed: the call that was last asked for was not made, or is the last
--- one and failed.
-pub record HasFailed (ring : ℕ) (before after : DiskSeen) : Type 0 where
+-- The disk has room for the ring, and failed: the call that was last asked for was not made, or is
+-- the last one and failed.
+pub record HasNotFormatted (ring : ℕ) (before after : DiskSeen) : Type 0 where
   pub room : HasRoomFor ring before.size
   pub rose : Rose before.faults after.faults
-  pub failed : HasFailedLast after.last_made after.told
+  pub failed : HasFailedLast after
   pub calls : after.calls ≤ before.calls + ring + 4
 
 -- What was done, by why the command stopped.
-abbrev pub MkfsDid : ℕ → DiskSeen → DiskSeen → StreamSeen → StreamSeen → End → Stop → Type 0
-MkfsDid ring before after sink_before sink_after end stops.Done = IsNowFormatted ring before after × Prints sink_before sink_after (mkfs_line before.size ring)
-MkfsDid ring before after sink_before sink_after end stops.Write = IsNowFormatted ring before after × FailsIn sink_before sink_after (mkfs_line before.size ring)
-MkfsDid ring before after sink_before sink_after end stops.Device = HasFailed ring before after × IsStopped sink_before sink_after end
-MkfsDid ring before after sink_before sink_after end (stops.DiskTooSmall blocks) = IsUnfit ring before after blocks × IsStopped sink_before sink_after end
+abbrev pub MkfsDid : ℕ → DiskSeen → DiskSeen → SinkSeen → SinkSeen → End → Stop → Type 0
+MkfsDid ring before after sink_before sink_after end stops.Done =
+    IsNowFormatted ring before after × Prints sink_before sink_after (mkfs_line before.size ring)
+MkfsDid ring before after sink_before sink_after end stops.Write =
+    IsNowFormatted ring before after × FailsIn sink_before sink_after (mkfs_line before.size ring)
+MkfsDid ring before after sink_before sink_after end stops.Device =
+    HasNotFormatted ring before after × IsStopped sink_before sink_after end
+MkfsDid ring before after sink_before sink_after end (stops.DiskTooSmall blocks) =
+    IsUnfit ring before after blocks × IsStopped sink_before sink_after end
 MkfsDid ring before after sink_before sink_after end stop = ⊥
 
-pub record MkfsEnds (ring : ℕ) (before after : DiskSeen) (sink_before sink_after : StreamSeen) (end : End) : Type 0 where
+-- What `mkfs` does, and what holds however it stopped.
+pub record MkfsEnds (ring : ℕ) (before after : DiskSeen) (sink_before sink_after : SinkSeen)
+    (end : End) : Type 0 where
   pub did : MkfsDid ring before after sink_before sink_after end end.stop
   pub idle : IsIdle end
   pub disk : GoesOn before after
-  pub sink_faults : sink_before.faults ≤ sink_after.faults
+  pub sink : SinkGoesOn sink_before sink_after

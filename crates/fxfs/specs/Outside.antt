@@ -1,39 +1,32 @@
 -- What a command sees of the disk and of the two streams, and how it ends.
-use Rattle.std.specs.Prelude.{◌≡◌, ◌⊎◌, ℕ, ◌≤◌, Bool, List, [], Option}
-use Rattle.fx_base.specs.Causes.{Rose}
-use Rattle.fx_disk.specs.Record.{DiskRecord}
-use Rattle.fx_disk.specs.Longer.{Extends}
-use Rattle.fx_io.specs.Told.{Takes, TakesFront}
+use Rattle.std.specs.Prelude.{◌≡◌, ℕ, Bool, true, false, List, []}
+use Rattle.fx_disk.specs.Seen.{DiskSeen}
+use Rattle.fx_io.specs.Seen.{SourceSeen, SinkSeen, HasTaken}
 use Rattle.fx_history.specs.declared.entry.Entry.{Entry}
 use Rattle.fx_history.specs.Outcome.{LineEnd}
 use Rattle.fxfs.specs.declared.ended.Stop.{Stop}
 use Rattle.fxfs.specs.Stop.{stop_line}
 
--- A disk: its blocks, its record where it tells it, its writes and flushes, its faults, and whether the
--- write or flush that was last asked for was made.
-pub record DiskSeen : Type 0 where
-  pub size : ℕ
-  pub told : Option DiskRecord
-  pub calls : ℕ
-  pub faults : ℕ
-  pub last_made : Bool
-
--- A source or a sink: the bytes that are left or were taken, where it tells them, and its faults.
-pub record StreamSeen : Type 0 where
-  pub bytes : Option (List ℕ)
-  pub faults : ℕ
-
+-- What is seen of the disk and of the two streams.
 pub record Outside : Type 0 where
   pub disk : DiskSeen
-  pub source : StreamSeen
-  pub sink : StreamSeen
+  pub source : SourceSeen
+  pub sink : SinkSeen
 
--- How a command ended: why, the commits of the disk when it was mounted, those made since, and the ends of the lines.
+abbrev pub outside : DiskSeen → SourceSeen → SinkSeen → Outside
+outside disk source sink = record { disk = disk; source = source; sink = sink }
+
+-- How a command ended: why, the commits of the disk when it was mounted, those made since, and the
+-- ends of the lines.
 pub record End : Type 0 where
   pub stop : Stop
   pub base : ℕ
   pub history : List Entry
   pub outcomes : List LineEnd
+
+abbrev pub ended : Stop → ℕ → List Entry → List LineEnd → End
+ended stop base history outcomes =
+    record { stop = stop; base = base; history = history; outcomes = outcomes }
 
 -- No line was run.
 pub record IsIdle (end : End) : Type 0 where
@@ -41,31 +34,19 @@ pub record IsIdle (end : End) : Type 0 where
   pub history : end.history ≡ []
   pub outcomes : end.outcomes ≡ []
 
--- The sink took the text.
-abbrev pub Prints : StreamSeen → StreamSeen → List ℕ → Type 0
-Prints before after text = Takes before.bytes after.bytes text
+-- The sink took the text, and counted no fault.
+abbrev pub Prints : SinkSeen → SinkSeen → List ℕ → Type 0
+Prints before after text = HasTaken before after text true
 
 -- The sink took a front of the text, which may be none of it, and failed.
-pub record FailsIn (before after : StreamSeen) (text : List ℕ) : Type 0 where
-  pub front : TakesFront before.bytes after.bytes text
-  pub rose : Rose before.faults after.faults
+abbrev pub FailsIn : SinkSeen → SinkSeen → List ℕ → Type 0
+FailsIn before after text = HasTaken before after text false
 
-abbrev pub PrintsOrFails : StreamSeen → StreamSeen → List ℕ → Type 0
-PrintsOrFails before after text = Prints before after text ⊎ FailsIn before after text
-
--- Nothing was written to the disk.
-pub record IsUntouched (before after : DiskSeen) : Type 0 where
-  pub told : after.told ≡ before.told
-  pub calls : after.calls ≡ before.calls
-
--- The disk has the size that it had and goes on telling, and neither its calls nor its faults became fewer.
-pub record GoesOn (before after : DiskSeen) : Type 0 where
-  pub size : after.size ≡ before.size
-  pub extends : Extends before.told after.told
-  pub calls : before.calls ≤ after.calls
-  pub faults : before.faults ≤ after.faults
+-- The sink took the text, or it took a front of it and failed.
+abbrev pub PrintsOrFails : SinkSeen → SinkSeen → List ℕ → Type 0
+PrintsOrFails before after text = (good : Bool) × HasTaken before after text good
 
 -- The command ended before any line was run, and told why.
-pub record IsStopped (before after : StreamSeen) (end : End) : Type 0 where
+pub record IsStopped (before after : SinkSeen) (end : End) : Type 0 where
   pub idle : IsIdle end
   pub stop : PrintsOrFails before after (stop_line end.stop)

@@ -26,7 +26,8 @@ numbered_line words number = words ++ decimal number ++ codes "\n"
 
 -- a line of words that end in two numbers
 abbrev pub twice_numbered_line : List ℕ → ℕ → ℕ → List ℕ
-twice_numbered_line words first second = words ++ decimal first ++ codes " " ++ decimal second ++ codes "\n"
+twice_numbered_line words first second =
+    words ++ decimal first ++ codes " " ++ decimal second ++ codes "\n"
 
 -- the line that tells why a disk was not mounted; none for what is told as another cause
 abbrev pub mount_line : MountFault → List ℕ
@@ -42,7 +43,8 @@ mount_line mounts.OutOfMemory = []
 
 -- the line that tells the first wrong line of a script
 abbrev pub bad_line : ℕ → LineFault → List ℕ
-bad_line number fault = codes "stop 8 badline " ++ decimal number ++ codes " " ++ fault_word fault ++ codes "\n"
+bad_line number fault =
+    codes "stop 8 badline " ++ decimal number ++ codes " " ++ fault_word fault ++ codes "\n"
 
 -- the line that tells a cause; none where all is done or nothing can be written
 abbrev pub stop_line : Stop → List ℕ

@@ -7,18 +7,14 @@ use Rattle.fxfs.specs.Outside.{Outside, End, IsStopped}
 use Rattle.fxfs.specs.Shell.{ShellEnds}
 use Rattle.fxfs.specs.Mkfs.{MkfsEnds}
 
--- No command was begun: the disk and the source are as they were.
-pub record IsRefused (before after : Outside) (end : End) : Type 0 where
+-- The words are no command: none was begun, and the disk and the source are as they were.
+pub record IsNoCommand (before after : Outside) (end : End) : Type 0 where
+  pub stop : end.stop ≡ stops.BadWords
   pub stopped : IsStopped before.sink after.sink end
   pub disk : after.disk ≡ before.disk
   pub source : after.source ≡ before.source
 
--- The words are no command.
-pub record IsNoCommand (before after : Outside) (end : End) : Type 0 where
-  pub stop : end.stop ≡ stops.BadWords
-  pub refused : IsRefused before after end
-
--- `mkfs`, which leaves the source alone
+-- `mkfs`, which leaves the source alone.
 pub record MkfsRuns (ring : ℕ) (before after : Outside) (end : End) : Type 0 where
   pub ends : MkfsEnds ring before.disk after.disk before.sink after.sink end
   pub source : after.source ≡ before.source

@@ -1,9 +1,8 @@
 //! The lines that a command prints beside its results. None takes memory.
-ghost use Rattle.std.specs.Prelude.{◌≡◌, ◌+◌, ◌≤◌, ◌++◌, length, codes, OnOk, OnErr};
+ghost use Rattle.std.specs.Prelude.{◌≡◌, ◌+◌, ◌≤◌, ◌++◌, length, is_ok};
 ghost use Rattle.std.specs.Fmt.{decimal};
 ghost use Rattle.arrayvec.specs.ArrayString.{array_string_len};
-ghost use Rattle.fx_base.specs.Causes.{Rose};
-ghost use Rattle.fx_io.specs.Told.{Takes, TakesFront};
+ghost use Rattle.fx_io.specs.Seen.{HasTaken};
 ghost use Rattle.fxfs.specs.Stop.{bad_line, mkfs_line, mount_line, numbered_line, stop_line, twice_numbered_line};
 
 use crate::ended::Stop;
@@ -110,10 +109,7 @@ fn stop_line(stop: Stop) -> ShortLine
 
 /// Writes the line that tells why the command stopped, if there is one.
 pub(crate) fn write_stop<K: Sink>(out: &mut K, stop: Stop) -> Result<(), Failed>
-    ensures ok { OnOk result (Takes (K.text out.old) (K.text out.new) (stop_line stop)) }
-    ensures front { OnErr result (TakesFront (K.text out.old) (K.text out.new) (stop_line stop)) }
-    ensures failed { OnErr result (Rose (K.fault_count out.old) (K.fault_count out.new)) }
-    ensures grows { K.fault_count out.old ≤ K.fault_count out.new }
+    ensures { HasTaken (K.seen out.old) (K.seen out.new) (stop_line stop) (is_ok result) }
 {
     let line = stop_line(stop);
     write_whole(out, line.as_str().as_bytes())
@@ -121,10 +117,7 @@ pub(crate) fn write_stop<K: Sink>(out: &mut K, stop: Stop) -> Result<(), Failed>
 
 /// Writes the line of a disk that was formatted.
 pub(crate) fn write_formatted<K: Sink>(out: &mut K, blocks: u32, ring: u32) -> Result<(), Failed>
-    ensures ok { OnOk result (Takes (K.text out.old) (K.text out.new) (mkfs_line blocks ring)) }
-    ensures front { OnErr result (TakesFront (K.text out.old) (K.text out.new) (mkfs_line blocks ring)) }
-    ensures failed { OnErr result (Rose (K.fault_count out.old) (K.fault_count out.new)) }
-    ensures grows { K.fault_count out.old ≤ K.fault_count out.new }
+    ensures { HasTaken (K.seen out.old) (K.seen out.new) (mkfs_line blocks ring) (is_ok result) }
 {
     let line = twice_numbered_line("mkfs ", blocks, u64::from(ring));
     write_whole(out, line.as_str().as_bytes())

@@ -1,26 +1,26 @@
 //! The command `shell`.
-ghost use Rattle.std.specs.Prelude.{◌≡◌, ◌≢◌, ◌⊎◌, ℕ, ◌+◌, ◌<◌, ◌≤◌, [], true, false, None, Err, All, List, length, map, IfOk, IfErr, IsTrue, vec_capacity};
-ghost use Rattle.std.specs.Option.{IfSome};
-ghost use Rattle.fx_base.specs.Causes.{Rose};
-ghost use Rattle.fx_disk.specs.Longer.{Extends};
+ghost use Rattle.std.specs.Prelude.{◌≡◌, ◌≢◌, ℕ, ◌+◌, ◌≤◌, [], All, List, length, IfOk, IfErr, vec_capacity};
+ghost use Rattle.fx_disk.specs.Seen.{GoesOn};
 ghost use Rattle.fx_io.specs.Told.{GivesAtMost};
+ghost use Rattle.fx_io.specs.Seen.{SourceGoesOn, SinkGoesOn};
 ghost use Rattle.fx_plain.specs.Tree.{Tree};
 ghost use Rattle.fx_script.specs.declared.script.Task.{Task};
 ghost use Rattle.fx_history.specs.Outcome.{LineEnd};
-ghost use Rattle.fx_history.specs.Transcript.{Session as IsSession};
-ghost use Rattle.fx_store.specs.Mounted.{KeepsImages, Opens};
+ghost use Rattle.fx_history.specs.Transcript.{EndsNext, Session as IsSession};
+ghost use Rattle.fx_store.specs.Line.{flushes};
+ghost use Rattle.fx_store.specs.Mounted.{EndsSync, LeavesImages, Opens, SameMount, TakesRing, TellsFaults, WritesEach};
 ghost use Rattle.fxfs.specs.Stop.{status_of};
-ghost use Rattle.fxfs.specs.Outside.{DiskSeen, StreamSeen, Outside, End, IsStopped};
-ghost use Rattle.fxfs.specs.Lines.{Spells, IsNoScript, Finishes, Flushes, Syncs, Tells, TellsEnd, TellsUnsynced, faults_in, synced_in};
-ghost use Rattle.fxfs.specs.Shell.{AreCalls, AreFaults, AreFull, AreSyncs, ShellEnds, syncs_in};
+ghost use Rattle.fxfs.specs.Outside.{IsStopped, ended, outside};
+ghost use Rattle.fxfs.specs.Lines.{Spells, IsNoScript, Finishes, Lasts, SettlesIf, Tells, TellsEnd, TellsUnsynced};
+ghost use Rattle.fxfs.specs.Shell.{AreFull, AreRun, AreTold, ShellEnds, syncs_in};
 
 use crate::ended::{Ended, Stop};
 use crate::line::write_stop;
 use fx_disk::Disk;
-use fx_history::{History, Outcome, Outcomes, result_text};
+use fx_history::{EndKind, History, Outcome, Outcomes, result_text};
 use fx_io::{ReadAllFault, Sink, Source, read_whole, write_whole};
 use fx_mount::{MountFault, Store, StoreEnd, Unmounted, mount};
-use fx_script::{BadLine, Tasks, read_script};
+use fx_script::{Line, ScriptFault, SentLine, Tasks, read_script};
 use std::alloc::Global;
 
 /// The most bytes of a script.
@@ -42,18 +42,9 @@ pub fn shell_call<D: Disk, S: Source, K: Sink>(
     out: &mut K,
 ) -> Ended<D>
     ensures status { result.status ≡ status_of result.stop }
-    ensures ends { let before : Outside = record {
-      disk = record { size = D.size disk; told = D.told disk; calls = D.calls disk; faults = D.faults disk; last_made = D.last_made disk };
-      source = record { bytes = S.left src.old; faults = S.fault_count src.old };
-      sink = record { bytes = K.text out.old; faults = K.fault_count out.old };
-    } in
-        let after : Outside = record {
-          disk = record { size = D.size result.disk; told = D.told result.disk; calls = D.calls result.disk; faults = D.faults result.disk; last_made = D.last_made result.disk };
-          source = record { bytes = S.left src.new; faults = S.fault_count src.new };
-          sink = record { bytes = K.text out.new; faults = K.fault_count out.new };
-        } in
-        let end : End = record { stop = result.stop; base = result.base; history = result.history; outcomes = result.outcomes } in
-        ShellEnds before after end }
+    ensures ends { ShellEnds (outside (D.seen disk) (S.seen src.old) (K.seen out.old))
+        (outside (D.seen result.disk) (S.seen src.new) (K.seen out.new))
+        (ended result.stop result.base result.history result.outcomes) }
 {
     let tasks = match read_tasks(alloc, src) {
         Ok(tasks) => tasks,
@@ -70,11 +61,10 @@ pub fn shell_call<D: Disk, S: Source, K: Sink>(
 
 /// The lines of the script that the source gives.
 fn read_tasks<S: Source>(alloc: Global, src: &mut S) -> Result<Tasks, Stop>
-    ensures ok { IfOk result (Spells (S.left src.old) (S.left src.new)) }
-    ensures err { IfErr result (IsNoScript (record { bytes = S.left src.old; faults = S.fault_count src.old })
-        (record { bytes = S.left src.new; faults = S.fault_count src.new })) }
-    ensures most { GivesAtMost (S.left src.old) (S.left src.new) (MAX_INPUT + 1) }
-    ensures grows { S.fault_count src.old ≤ S.fault_count src.new }
+    ensures ok { IfOk result (Spells (S.seen src.old) (S.seen src.new)) }
+    ensures err { IfErr result (IsNoScript (S.seen src.old) (S.seen src.new)) }
+    ensures most { GivesAtMost (S.seen src.old).left (S.seen src.new).left (MAX_INPUT + 1) }
+    ensures goes { SourceGoesOn (S.seen src.old) (S.seen src.new) }
 {
     let bytes = match read_whole(alloc, src, MAX_INPUT) {
         Ok(bytes) => bytes,
@@ -84,7 +74,7 @@ fn read_tasks<S: Source>(alloc: Global, src: &mut S) -> Result<Tasks, Stop>
     };
     match read_script(bytes, false) {
         Ok(tasks) => Ok(tasks),
-        Err(BadLine { number, fault }) => Err(Stop::BadLine { number, fault }),
+        Err(ScriptFault::BadLine { number, fault }) => Err(Stop::BadLine { number, fault }),
     }
 }
 
@@ -92,7 +82,8 @@ fn read_tasks<S: Source>(alloc: Global, src: &mut S) -> Result<Tasks, Stop>
 fn mount_stop(fault: MountFault) -> Stop
     ensures device { fault ≡ MountFault.Device → result ≡ Stop.Device }
     ensures memory { fault ≡ MountFault.OutOfMemory → result ≡ Stop.OutOfMemory }
-    ensures image { fault ≢ MountFault.Device → fault ≢ MountFault.OutOfMemory → result ≡ Stop.NotMounted fault }
+    ensures image { fault ≢ MountFault.Device → fault ≢ MountFault.OutOfMemory →
+        result ≡ Stop.NotMounted fault }
 {
     match fault {
         MountFault::Device => Stop::Device,
@@ -106,10 +97,9 @@ pub(crate) fn stopped<D: Disk, K: Sink>(alloc: Global, disk: D, out: &mut K, sto
     ensures status { result.status ≡ status_of stop }
     ensures stop { result.stop ≡ stop }
     ensures disk { result.disk ≡ disk }
-    ensures stopped { IsStopped (record { bytes = K.text out.old; faults = K.fault_count out.old })
-        (record { bytes = K.text out.new; faults = K.fault_count out.new })
-        (record { stop = result.stop; base = result.base; history = result.history; outcomes = result.outcomes }) }
-    ensures grows { K.fault_count out.old ≤ K.fault_count out.new }
+    ensures stopped { IsStopped (K.seen out.old) (K.seen out.new)
+        (ended result.stop result.base result.history result.outcomes) }
+    ensures goes { SinkGoesOn (K.seen out.old) (K.seen out.new) }
 {
     // Where the line cannot be written the status stays what it is.
     let _told = write_stop(out, stop);
@@ -129,23 +119,18 @@ fn finish<D: Disk, K: Sink>(
     requires empty { room.items ≡ [] }
     requires room { length tasks.now ≤ vec_capacity room }
     ensures status { result.status ≡ status_of result.stop }
-    ensures session { (opening : Tree) → Opens store.txns opening → IsSession opening store.base result.history tasks.now result.outcomes }
-    ensures told { AreFaults (D.faults store.disk) (D.faults result.disk) result.outcomes }
-    ensures synced { AreSyncs (D.calls store.disk) (D.calls result.disk) (D.told result.disk) result.outcomes }
-    ensures calls { AreCalls (D.calls store.disk) (D.calls result.disk) tasks.now result.history result.outcomes }
-    ensures full { (opening : Tree) → Opens store.txns opening → AreFull store.ring store.live store.base result.outcomes }
     ensures base { result.base ≡ store.base }
-    ensures settled { All (λ entry. entry.settled ≤ D.calls result.disk) result.history }
-    ensures finishes { Finishes store.from store.txns (record { size = D.size store.disk; told = D.told store.disk; calls = D.calls store.disk; faults = D.faults store.disk; last_made = D.last_made store.disk })
-        (record { size = D.size result.disk; told = D.told result.disk; calls = D.calls result.disk; faults = D.faults result.disk; last_made = D.last_made result.disk })
-        (record { bytes = K.text out.old; faults = K.fault_count out.old })
-        (record { bytes = K.text out.new; faults = K.fault_count out.new }) tasks.now
-        (record { stop = result.stop; base = result.base; history = result.history; outcomes = result.outcomes }) result.stop }
-    ensures images { IfSome (D.told result.disk) (KeepsImages (D.size result.disk) store.from store.txns store.base result.history) }
-    ensures extends { Extends (D.told store.disk) (D.told result.disk) }
-    ensures size { D.size result.disk ≡ D.size store.disk }
-    ensures faults { D.faults store.disk ≤ D.faults result.disk }
-    ensures grows { K.fault_count out.old ≤ K.fault_count out.new }
+    ensures ran { (opening : Tree) → Opens store.txns opening →
+        AreRun store.ring store.live opening (D.seen store.disk) (D.seen result.disk) tasks.now
+        (ended result.stop result.base result.history result.outcomes) }
+    ensures finishes { (opening : Tree) → Opens store.txns opening →
+        Finishes (D.seen store.disk).calls (D.seen store.disk).faults store.from opening
+        (D.seen result.disk) (K.seen out.old) (K.seen out.new) tasks.now
+        (ended result.stop result.base result.history result.outcomes) result.stop }
+    ensures settled { All (λ entry. entry.settled ≤ (D.seen result.disk).calls) result.history }
+    ensures images { LeavesImages (D.seen result.disk) store result.history }
+    ensures disk { GoesOn (D.seen store.disk) (D.seen result.disk) }
+    ensures sink { SinkGoesOn (K.seen out.old) (K.seen out.new) }
 {
     let mut store = store;
     let outcomes = run(alloc, &mut store, tasks, room);
@@ -166,33 +151,51 @@ fn finish<D: Disk, K: Sink>(
     }
 }
 
+/// Does a line that was checked. Its task is built for this call alone; where there is no memory for it
+/// nothing is done.
+fn run_line<D: Disk>(alloc: Global, store: &mut Store<D>, line: &SentLine<'_>) -> Outcome
+    ensures ends { (opening : Tree) → Opens store.old.txns opening →
+        EndsNext opening store.old.base store.old.history store.new.history
+        line.now result.at result.kind }
+    ensures takes { TakesRing store.old store.new result.kind }
+    ensures syncs { line.now.line ≡ Line.Sync →
+        EndsSync (D.seen store.old.disk) (D.seen store.new.disk) store.old store.new result.kind }
+    ensures faults { TellsFaults (D.seen store.old.disk) (D.seen store.new.disk) result.kind }
+    ensures each { WritesEach (flushes line.now.line)
+        (D.seen store.old.disk) (D.seen store.new.disk) store.old store.new }
+    ensures mount { SameMount store.old store.new }
+    ensures disk { GoesOn (D.seen store.old.disk) (D.seen store.new.disk) }
+{
+    let Ok(task) = line.task(alloc) else {
+        return Outcome::new(store.number(), EndKind::OutOfMemory);
+    };
+    store.exec(alloc, &task)
+}
+
 /// Does the lines in their order, in the room for their outcomes.
 fn run<D: Disk>(alloc: Global, store: &mut Store<D>, tasks: &Tasks, room: Vec<Outcome>) -> Outcomes
     requires fresh { store.old.history ≡ [] }
     requires empty { room.items ≡ [] }
     requires room { length tasks.now ≤ vec_capacity room }
     ensures one_each { length result ≡ length tasks.now }
-    ensures session { (opening : Tree) → Opens store.old.txns opening → IsSession opening store.old.base store.new.history tasks.now result }
-    ensures told { AreFaults (D.faults store.old.disk) (D.faults store.new.disk) result }
-    ensures unfailed { faults_in result ≡ 0 → D.faults store.new.disk ≡ D.faults store.old.disk }
-    ensures synced { AreSyncs (D.calls store.old.disk) (D.calls store.new.disk) (D.told store.new.disk) result }
+    ensures session { (opening : Tree) → Opens store.old.txns opening →
+        IsSession opening store.old.base store.new.history tasks.now result }
+    ensures full { (opening : Tree) → Opens store.old.txns opening →
+        AreFull store.old.ring store.old.live store.old.base result }
+    ensures told { (opening : Tree) → Opens store.old.txns opening →
+        AreTold (D.seen store.old.disk) (D.seen store.new.disk) result }
 
-    // A call at least for each line that synced. A commit takes one block at most, which waits until one call
-    // writes it, and a line `sync` makes one call more at most.
-    ensures least { D.calls store.old.disk + synced_in result ≤ D.calls store.new.disk }
-    ensures most { D.calls store.new.disk + store.new.waiting ≤ D.calls store.old.disk + store.old.waiting + length store.new.history + syncs_in tasks.now }
+    // A commit takes one block at most, which waits until one call writes it, and a line `sync` makes
+    // one call more at most.
+    ensures most { (D.seen store.new.disk).calls + store.new.waiting ≤ (D.seen store.old.disk).calls
+        + store.old.waiting + length store.new.history + syncs_in tasks.now }
 
-    ensures full { (opening : Tree) → Opens store.old.txns opening → AreFull store.old.ring store.old.live store.old.base result }
-    ensures base { store.new.base ≡ store.old.base }
-    ensures txns { store.new.txns ≡ store.old.txns }
-    ensures from { store.new.from ≡ store.old.from }
-    ensures extends { Extends (D.told store.old.disk) (D.told store.new.disk) }
-    ensures size { D.size store.new.disk ≡ D.size store.old.disk }
-    ensures faults { D.faults store.old.disk ≤ D.faults store.new.disk }
+    ensures mount { SameMount store.old store.new }
+    ensures disk { GoesOn (D.seen store.old.disk) (D.seen store.new.disk) }
 {
     let mut items = room;
-    for task in tasks.lines() {
-        let outcome = store.exec(alloc, &task);
+    for line in tasks.lines() {
+        let outcome = run_line(alloc, store, &line);
         items.push_reserved(outcome);
     }
     Outcomes::new(items)
@@ -200,16 +203,15 @@ fn run<D: Disk>(alloc: Global, store: &mut Store<D>, tasks: &Tasks, room: Vec<Ou
 
 /// Flushes what the lines made, and tells whether that was done.
 fn flush<D: Disk>(store: &mut Store<D>) -> bool
-    ensures syncs { Syncs result store.old.from store.old.txns (record { size = D.size store.old.disk; told = D.told store.old.disk; calls = D.calls store.old.disk; faults = D.faults store.old.disk; last_made = D.last_made store.old.disk })
-        (record { size = D.size store.new.disk; told = D.told store.new.disk; calls = D.calls store.new.disk; faults = D.faults store.new.disk; last_made = D.last_made store.new.disk }) store.old.base store.old.history store.new.history }
-    ensures grows { D.calls store.old.disk ≤ D.calls store.new.disk }
-    ensures most { D.calls store.new.disk ≤ D.calls store.old.disk + store.old.waiting + 1 }
-    ensures base { store.new.base ≡ store.old.base }
-    ensures txns { store.new.txns ≡ store.old.txns }
-    ensures from { store.new.from ≡ store.old.from }
-    ensures extends { Extends (D.told store.old.disk) (D.told store.new.disk) }
-    ensures size { D.size store.new.disk ≡ D.size store.old.disk }
-    ensures faults { D.faults store.old.disk ≤ D.faults store.new.disk }
+    ensures lasts { (opening : Tree) → Opens store.old.txns opening →
+        Lasts result (D.seen store.old.disk).calls (D.seen store.old.disk).faults store.old.from
+        opening store.old.base store.new.history [] (D.seen store.new.disk) }
+    ensures settles { SettlesIf result (D.seen store.new.disk).calls
+        store.old.history store.new.history }
+    ensures most { (D.seen store.new.disk).calls ≤
+        (D.seen store.old.disk).calls + store.old.waiting + 1 }
+    ensures mount { SameMount store.old store.new }
+    ensures disk { GoesOn (D.seen store.old.disk) (D.seen store.new.disk) }
 {
     let Ok(_) = store.sync() else {
         return false;
@@ -229,21 +231,19 @@ struct Closed<D> {
 /// Flushes what the lines made, and gives the disk back.
 fn close<D: Disk>(store: Store<D>) -> Closed<D>
     ensures base { result.base ≡ store.base }
-    ensures flushes { Flushes result.is_flushed store.from store.txns (record { size = D.size store.disk; told = D.told store.disk; calls = D.calls store.disk; faults = D.faults store.disk; last_made = D.last_made store.disk })
-        (record { size = D.size result.disk; told = D.told result.disk; calls = D.calls result.disk; faults = D.faults result.disk; last_made = D.last_made result.disk }) store.base result.history }
-
-    ensures grows { D.calls store.disk ≤ D.calls result.disk }
-    ensures most { D.calls result.disk ≤ D.calls store.disk + store.waiting + 1 }
+    ensures lasts { (opening : Tree) → Opens store.txns opening →
+        Lasts result.is_flushed (D.seen store.disk).calls (D.seen store.disk).faults store.from
+        opening store.base result.history [] (D.seen result.disk) }
 
     // A session stays one: where the disk was flushed its history is settled, and else as it was.
     ensures session { (opening : Tree) (tasks : List Task) (outcomes : List LineEnd) →
-        IsSession opening store.base store.history tasks outcomes → IsSession opening store.base result.history tasks outcomes }
+        IsSession opening store.base store.history tasks outcomes →
+        IsSession opening store.base result.history tasks outcomes }
     ensures as_many { length result.history ≡ length store.history }
-    ensures settled { All (λ entry. entry.settled ≤ D.calls result.disk) result.history }
-    ensures images { IfSome (D.told result.disk) (KeepsImages (D.size result.disk) store.from store.txns store.base result.history) }
-    ensures extends { Extends (D.told store.disk) (D.told result.disk) }
-    ensures size { D.size result.disk ≡ D.size store.disk }
-    ensures faults { D.faults store.disk ≤ D.faults result.disk }
+    ensures settled { All (λ entry. entry.settled ≤ (D.seen result.disk).calls) result.history }
+    ensures images { LeavesImages (D.seen result.disk) store result.history }
+    ensures most { (D.seen result.disk).calls ≤ (D.seen store.disk).calls + store.waiting + 1 }
+    ensures disk { GoesOn (D.seen store.disk) (D.seen result.disk) }
 {
     let mut store = store;
     let is_flushed = flush(&mut store);
@@ -269,9 +269,9 @@ fn tell_end<K: Sink>(
     out: &mut K,
 ) -> Stop
     requires { length outcomes.now ≡ length tasks.now }
-    ensures tells { TellsEnd is_flushed (record { bytes = K.text out.old; faults = K.fault_count out.old })
-        (record { bytes = K.text out.new; faults = K.fault_count out.new }) tasks.now outcomes.now result }
-    ensures grows { K.fault_count out.old ≤ K.fault_count out.new }
+    ensures tells { TellsEnd is_flushed (K.seen out.old) (K.seen out.new)
+        tasks.now outcomes.now result }
+    ensures goes { SinkGoesOn (K.seen out.old) (K.seen out.new) }
 {
     if is_flushed {
         return tell(alloc, tasks, outcomes, out);
@@ -282,9 +282,8 @@ fn tell_end<K: Sink>(
 /// Writes the result lines, once all lines were run and the disk was flushed, and gives the cause.
 fn tell<K: Sink>(alloc: Global, tasks: &Tasks, outcomes: &[Outcome], out: &mut K) -> Stop
     requires { length outcomes.now ≡ length tasks.now }
-    ensures tells { Tells (record { bytes = K.text out.old; faults = K.fault_count out.old })
-        (record { bytes = K.text out.new; faults = K.fault_count out.new }) tasks.now outcomes.now result }
-    ensures grows { K.fault_count out.old ≤ K.fault_count out.new }
+    ensures tells { Tells (K.seen out.old) (K.seen out.new) tasks.now outcomes.now result }
+    ensures goes { SinkGoesOn (K.seen out.old) (K.seen out.new) }
 {
     let Ok(text) = result_text(alloc, tasks, outcomes) else {
         let _told = write_stop(out, Stop::OutOfMemory);
@@ -301,9 +300,8 @@ fn tell<K: Sink>(alloc: Global, tasks: &Tasks, outcomes: &[Outcome], out: &mut K
 fn tell_unsynced<K: Sink>(alloc: Global, tasks: &Tasks, outcomes: &[Outcome], out: &mut K) -> Stop
     requires { length outcomes.now ≡ length tasks.now }
     ensures device { result ≡ Stop.Device }
-    ensures tells { TellsUnsynced (record { bytes = K.text out.old; faults = K.fault_count out.old })
-        (record { bytes = K.text out.new; faults = K.fault_count out.new }) tasks.now outcomes.now }
-    ensures grows { K.fault_count out.old ≤ K.fault_count out.new }
+    ensures tells { TellsUnsynced (K.seen out.old) (K.seen out.new) tasks.now outcomes.now }
+    ensures goes { SinkGoesOn (K.seen out.old) (K.seen out.new) }
 {
     let Ok(text) = result_text(alloc, tasks, outcomes) else {
         let _told = write_stop(out, Stop::Device);

@@ -3,7 +3,7 @@ ghost use Rattle.std.specs.Prelude.{◌≡◌, map};
 ghost use Rattle.std.specs.String.{string_bytes};
 ghost use Rattle.fxfs.specs.Command.{command_of};
 ghost use Rattle.fxfs.specs.Stop.{status_of};
-ghost use Rattle.fxfs.specs.Outside.{Outside, End};
+ghost use Rattle.fxfs.specs.Outside.{ended, outside};
 ghost use Rattle.fxfs.specs.Top.{Does};
 
 use crate::command::{Command, WordsFault, command_of};
@@ -25,18 +25,10 @@ pub fn fxfs_top<D: Disk, S: Source, K: Sink>(
     ensures status { result.status ≡ status_of result.stop }
 
     // What the command does by its own call.
-    ensures does { let before : Outside = record {
-      disk = record { size = D.size disk; told = D.told disk; calls = D.calls disk; faults = D.faults disk; last_made = D.last_made disk };
-      source = record { bytes = S.left src.old; faults = S.fault_count src.old };
-      sink = record { bytes = K.text out.old; faults = K.fault_count out.old };
-    } in
-        let after : Outside = record {
-          disk = record { size = D.size result.disk; told = D.told result.disk; calls = D.calls result.disk; faults = D.faults result.disk; last_made = D.last_made result.disk };
-          source = record { bytes = S.left src.new; faults = S.fault_count src.new };
-          sink = record { bytes = K.text out.new; faults = K.fault_count out.new };
-        } in
-        let end : End = record { stop = result.stop; base = result.base; history = result.history; outcomes = result.outcomes } in
-        Does (command_of (map string_bytes words.now)) before after end }
+    ensures does { Does (command_of (map string_bytes words.now))
+        (outside (D.seen disk) (S.seen src.old) (K.seen out.old))
+        (outside (D.seen result.disk) (S.seen src.new) (K.seen out.new))
+        (ended result.stop result.base result.history result.outcomes) }
 
     // Status 2: the disk and the source were not touched.
     ensures unread { result.status ≡ 2 → src.new ≡ src.old }

@@ -2,7 +2,7 @@ use Rattle.std.proofs.Common.{◌≡◌, true, sym}
 use Rattle.std.specs.Str.Parse.{ParsesUnsigned}
 use Rattle.fx_script.proofs.Numbers.{IsUtf8-digits}
 use Rattle.fxfs.specs.Command.{is_count}
-use Rattle.fxfs.proofs.Words.{IsCount-from_test, too_large}
+use Rattle.fxfs.proofs.CommandRing.{IsCount-from_test, too_large}
 use Rattle.fxfs.proofs.command.mkfs_with.Goals as goal
 
 -- digits are UTF-8

@@ -3,7 +3,7 @@ use Rattle.std.specs.Prelude.{map, Some}
 use Rattle.std.specs.String.{string_bytes}
 use Rattle.fxfs.specs.Command.{command_of}
 use Rattle.fxfs.specs.declared.command.Command.TheVariants.{Mkfs}
-use Rattle.fxfs.proofs.Words.{ring_of_command}
+use Rattle.fxfs.proofs.CommandRing.{ring_of_command}
 use Rattle.fxfs.proofs.top.fxfs_top.Goals as goal
 
 pub mkfs_call-requires-clause-least : goal.mkfs_call-requires-clause-least

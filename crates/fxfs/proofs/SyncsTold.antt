@@ -6,27 +6,31 @@ use Rattle.std.proofs.lemmas.List.{get_or_append_left}
 use Rattle.std.proofs.lemmas.List.Sums.{sum_by_push}
 use Rattle.fx_disk.specs.Record.{Call, Flush, DiskRecord, call_at}
 use Rattle.fx_disk.specs.Loose.{IsGoodFlush}
-use Rattle.fx_disk.specs.Longer as longer
-use Rattle.fx_disk.specs.Longer.{Extends}
-use Rattle.fx_disk.proofs.Made.{IsTold}
+use Rattle.fx_disk.specs.Longer.{IsLonger, Extends}
+use Rattle.fx_disk.specs.Steps.{IsRecordOf}
+use Rattle.fx_disk.specs.Seen.{DiskSeen, GoesOn, IsFlushedBy}
+use Rattle.fx_plain.specs.Tree.{Tree}
 use Rattle.fx_script.specs.declared.script.Task.{Task}
+use Rattle.fx_script.specs.declared.line.Line.TheVariants.{Sync}
+use Rattle.fx_history.specs.declared.entry.Entry.{Entry}
 use Rattle.fx_history.specs.declared.outcome.EndKind.{EndKind}
 use Rattle.fx_history.specs.declared.outcome.EndKind.TheVariants as ends
 use Rattle.fx_history.specs.Outcome.{LineEnd}
 use Rattle.fx_history.proofs.Histories.{got_split}
-use Rattle.fx_store.specs.Calls.{IsFlushedBy, flushes}
-use Rattle.fxfs.specs.Lines.{is_synced, synced_in}
+use Rattle.fx_store.specs.Line.{flushes}
+use Rattle.fx_history.specs.Transcript.{EndsNext, is_synced}
+use Rattle.fxfs.specs.Lines.{synced_in}
 use Rattle.fxfs.specs.Shell.{IsSync, AreSyncs, syncs_in}
-use Rattle.fxfs.proofs.Runs.{end_of, count_more, pairs_more}
+use Rattle.fxfs.proofs.FaultsTold.{end_of, count_more, pairs_more}
 
 -- ---- each sync that a line tells
 
 -- an earlier call stands where it stood
-call_stays : (r s : DiskRecord) (place : ℕ) → longer.IsLonger r s → place < length r.calls → call_at s.calls place ≡ call_at r.calls place
+call_stays : (r s : DiskRecord) (place : ℕ) → IsLonger r s → place < length r.calls → call_at s.calls place ≡ call_at r.calls place
 call_stays r s place g lt = ap (λ (cs : List Call). call_at cs place) g.calls ∙ get_or_append_left r.calls g.further (Flush false) place lt
 
 -- a good flush stays one
-flush_stays : (size before place : ℕ) (told_before told_after : Option DiskRecord) → IsTold size before told_before → Extends told_before told_after → place < before
+flush_stays : (size before place : ℕ) (told_before told_after : Option DiskRecord) → IfSome told_before (IsRecordOf size before) → Extends told_before told_after → place < before
     → IfSome told_before (λ r. IsGoodFlush (call_at r.calls place)) → IfSome told_after (λ r. IsGoodFlush (call_at r.calls place))
 flush_stays size before place None told_after was e lt k = subst (λ (o : Option DiskRecord). IfSome o (λ r. IsGoodFlush (call_at r.calls place))) (sym e) tt
 flush_stays size before place (Some r) told_after was (s, e, g) lt k =
@@ -39,41 +43,49 @@ syncs_none first last told = record {
 }
 
 -- no line more, and further calls
-pub syncs_later : (size first before after : ℕ) (told_before told_after : Option DiskRecord) → IsTold size before told_before → Extends told_before told_after → before ≤ after
-    → (outcomes : List LineEnd) → AreSyncs first before told_before outcomes → AreSyncs first after told_after outcomes
-syncs_later size first before after told_before told_after was e le outcomes k = record {
+pub syncs_later : (first : ℕ) (before after : DiskSeen) → IfSome before.told (IsRecordOf before.size before.calls) → GoesOn before after
+    → (outcomes : List LineEnd) → AreSyncs first before.calls before.told outcomes → AreSyncs first after.calls after.told outcomes
+syncs_later first before after was goes outcomes k = record {
   each = λ i end calls got is. let sync = k.each i end calls got is in record {
     later = sync.later;
-    within = omega (arith, sync.within, le);
-    flushed = λ place same. flush_stays size before place told_before told_after was e (omega (arith, sync.within, same)) (sync.flushed place same);
+    within = omega (arith, sync.within, goes.calls);
+    flushed = λ place same. flush_stays before.size before.calls place before.told after.told was goes.told (omega (arith, sync.within, same)) (sync.flushed place same);
   };
   rising = k.rising;
 }
 
 -- what is known of the disk after a line that ended so
-abbrev Flushed : ℕ → Option DiskRecord → EndKind → Type 0
-Flushed after told kind = (calls : ℕ) → kind ≡ ends.Synced calls → IsFlushedBy calls after told
+abbrev pub TellsSync : DiskSeen → DiskSeen → ℕ → EndKind → Type 0
+TellsSync before after waiting kind =
+    (calls : ℕ) → kind ≡ ends.Synced calls → (calls ≡ after.calls) × (after.calls ≡ before.calls + waiting + 1) × IsFlushedBy after.calls after
 
-abbrev Counted : ℕ → ℕ → ℕ → EndKind → Type 0
-Counted before waiting after kind = (calls : ℕ) → kind ≡ ends.Synced calls → after ≡ before + waiting + 1
+-- the last call is the one with this number
+last_flush : (after : DiskSeen) (calls place : ℕ) → calls ≡ after.calls → IsFlushedBy after.calls after → calls ≡ place + 1 → IfSome after.told (λ r. IsGoodFlush (call_at r.calls place))
+last_flush after calls place is by e =
+    let same : by.last ≡ place = omega (arith, by.counted, is, e) in
+    subst (λ (n : ℕ). IfSome after.told (λ r. IsGoodFlush (call_at r.calls n))) same by.flush
 
-pub syncs_more : (size first before after waiting : ℕ) (told_before told_after : Option DiskRecord) → IsTold size before told_before → Extends told_before told_after → first ≤ before → before ≤ after
-    → (outcomes : List LineEnd) (at : ℕ) (kind : EndKind) → AreSyncs first before told_before outcomes → Flushed after told_after kind → Counted before waiting after kind
-    → AreSyncs first after told_after (outcomes ++ end_of at kind ∷ [])
-syncs_more size first before after waiting told_before told_after was e from le outcomes at kind k flushed counted =
-    let later = syncs_later size first before after told_before told_after was e le outcomes k in
+pub syncs_more : (first waiting : ℕ) (before after : DiskSeen) → IfSome before.told (IsRecordOf before.size before.calls) → GoesOn before after → first ≤ before.calls
+    → (outcomes : List LineEnd) (at : ℕ) (kind : EndKind) → AreSyncs first before.calls before.told outcomes → TellsSync before after waiting kind
+    → AreSyncs first after.calls after.told (outcomes ++ end_of at kind ∷ [])
+syncs_more first waiting before after was goes from outcomes at kind k tells =
+    let later = syncs_later first before after was goes outcomes k in
     record {
       each = λ i end calls got is. elim (got_split outcomes (end_of at kind) i end got) [
         | inl old ↦ later.each i end calls old is
-        | inr new ↦ let same : kind ≡ ends.Synced calls = ap (λ (x : LineEnd). x.kind) new.1 ∙ is in let by = flushed calls same in record {
-          later = omega (arith, by.0, counted calls same, from);
+        | inr new ↦ let by = tells calls (ap (λ (x : LineEnd). x.kind) new.1 ∙ is) in record {
+          later = omega (arith, by.0, by.1, from);
           within = omega (arith, by.0);
-          flushed = by.1;
+          flushed = λ place e. last_flush after calls place by.0 by.2 e;
         }
       ];
       rising = pairs_more (λ (x y : LineEnd). (m n : ℕ) → x.kind ≡ ends.Synced m → y.kind ≡ ends.Synced n → m < n) outcomes (end_of at kind) k.rising
-          (λ i x got m n is same. omega (arith, (k.each i x m got is).within, (flushed n same).0, counted n same));
+          (λ i x got m n is same. let by = tells n same in omega (arith, (k.each i x m got is).within, by.0, by.1));
     }
+
+-- what is known of the calls that such a line made
+abbrev Counted : ℕ → ℕ → ℕ → EndKind → Type 0
+Counted before waiting after kind = (calls : ℕ) → kind ≡ ends.Synced calls → after ≡ before + waiting + 1
 
 -- ---- how many calls the lines made
 
@@ -91,3 +103,9 @@ least_more first before waiting after outcomes at ends.OutOfMemory k grows count
 -- one line more among those that are `sync`
 pub syncs_in_more : (tasks : List Task) (task : Task) → syncs_in (tasks ++ task ∷ []) ≡ syncs_in tasks + flushes task.line
 syncs_in_more tasks task = sum_by_push (λ (t : Task). flushes t.line) tasks task
+
+-- a line that tells a sync is one
+pub sync_of : (tree : Tree) (base : ℕ) (old new : List Entry) (task : Task) (at : ℕ) (kind : EndKind) → EndsNext tree base old new task at kind
+    → (calls : ℕ) → kind ≡ ends.Synced calls → task.line ≡ Sync
+sync_of tree base old new task at kind next calls is =
+    (let h : EndsNext tree base old new task at (ends.Synced calls) = subst (EndsNext tree base old new task at) is next in h).2
