@@ -13,7 +13,7 @@ use Rattle.fx_disk.specs.Seen.{DiskSeen}
 use Rattle.fx_jblock.specs.declared.Start.{Start}
 use Rattle.fx_journal.specs.Stream.{IsSeries, place_after}
 use Rattle.fx_journal.specs.declared.stream.StreamBlock.{StreamBlock}
-use Rattle.fx_record.specs.Txns.{IsTxns, bytes_of, txns_of}
+use Rattle.fx_record.specs.Txns.{IsTxns, all_bytes, txns_of}
 use Rattle.fx_image.specs.Standing.{HasSessionRoom, StandsFor, Transactions, items_after, kept, lists_of, stream_pieces}
 use Rattle.fx_log.specs.Chosen.{ChoosesSuper, start_of}
 use Rattle.fx_mount.specs.declared.fault.MountFault.{MountFault}

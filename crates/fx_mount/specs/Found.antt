@@ -107,7 +107,7 @@ IsRefused size image (DiskSize blocks) =
     (2 ≤ size) × (blocks ≡ size) × ((f : Fields) × ChoosesSuper f image × (f.blocks ≢ size))
 IsRefused size image (BadLayer at) = (2 ≤ size)
     × ((f : Fields) × ChoosesSuper f image × (f.blocks ≡ size)
-        × ((rest : List ℕ) × (layers_of f ≡ at ∷ rest)))
+    × ((rest : List ℕ) × (layers_of f ≡ at ∷ rest)))
 IsRefused size image (BadRecord place) = (f : Fields) × (blocks : List StreamBlock)
     × HasSuper size image f × HasStream image f blocks
     × IsBadRecord f.base (stream_pieces blocks) place
@@ -117,7 +117,7 @@ IsRefused size image (BadTree store id) =
     × IsLeastWrong (items_after txns) (record { store = store; id = id })
 IsRefused size image (Cramped free) = (2 ≤ size) × (free ≡ 0)
     × ((f : Fields) × (txns : Transactions) × (tree : Tree) × IsImage size image f txns tree
-        × (HasSessionRoom f txns → ⊥))
+    × (HasSessionRoom f txns → ⊥))
 IsRefused size image Device = ⊥
 IsRefused size image OutOfMemory = ⊥
 

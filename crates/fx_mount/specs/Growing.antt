@@ -34,7 +34,7 @@ pub record AreParentsFirst (nodes : List TreeNode) : Type 0 where
   pub parent : (i : ℕ) (x : TreeNode) (above : List (List ℕ)) (name : List ℕ)
       → slice_get nodes i ≡ Some x → x.path ≡ above ++ name ∷ [] → above ≢ []
       → (j : ℕ) × (y : TreeNode) × (j < i) × (slice_get nodes j ≡ Some y)
-          × (y.path ≡ above) × (y.kind ≡ Dir)
+      × (y.path ≡ above) × (y.kind ≡ Dir)
   pub volume : (i : ℕ) (x : TreeNode) (name : List ℕ) → slice_get nodes i ≡ Some x
       → x.path ≡ name ∷ [] → x.kind ≡ Dir
 
@@ -45,7 +45,7 @@ pub record HasNodes (nodes : List TreeNode) (n : ℕ) (tree : Tree) : Type 0 whe
       → get tree x.path ≡ Some (empty_node x.kind)
   pub only : (path : List (List ℕ)) (node : Node) → get tree path ≡ Some node
       → (path ≡ [])
-          ⊎ ((i : ℕ) × (x : TreeNode) × (i < n) × (slice_get nodes i ≡ Some x) × (x.path ≡ path))
+      ⊎ ((i : ℕ) × (x : TreeNode) × (i < n) × (slice_get nodes i ≡ Some x) × (x.path ≡ path))
 
 -- The table has the root, and the nodes of the paths of the first n of the nodes.
 pub record HasPaths (nodes : List TreeNode) (n : ℕ) (table : NodeTable) : Type 0 where

@@ -8,8 +8,8 @@ ghost use Rattle.fx_store.specs.Opening.{TellsChosen};
 ghost use Rattle.fx_mount.specs.Found.{AreSlots, CanGoOn, HasReadWell, IsMountCause, IsRefused, TellsSlot, first_slot, second_slot};
 
 use crate::fault::MountFault;
-use fx_disk::{Disk, DiskFailed};
 use fx_base::zero_block;
+use fx_disk::{Disk, DiskFailed};
 use fx_store::Found;
 use fx_super::{Super, SuperFault, Which, choose, decode_super};
 

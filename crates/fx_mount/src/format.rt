@@ -7,8 +7,8 @@ ghost use Rattle.fx_mount.specs.Formatted.{HasFormatted, IsFormatted, IsLaidOut,
 ghost use Rattle.fx_mount.specs.Laying.{KeepsFirst};
 
 use crate::fault::MkfsFault;
-use fx_disk::{Disk, DiskFailed};
 use fx_base::zero_block;
+use fx_disk::{Disk, DiskFailed};
 use fx_super::{MAX_BLOCKS, RING_SHARE, SPARE_BLOCKS, encode_super, first_super};
 
 /// Formats the disk with a ring of `ring` blocks, `MIN_RING` to `MAX_RING`: zeros in block 1 and in the ring, a

@@ -10,5 +10,5 @@ mod reading;
 
 pub use fault::{MkfsFault, MountFault};
 pub use format::mkfs;
-pub use mounting::{Unmounted, mount};
 pub use fx_store::{Mark, Store, StoreEnd};
+pub use mounting::{Unmounted, mount};

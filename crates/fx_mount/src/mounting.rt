@@ -56,7 +56,7 @@ pub fn mount<D: Disk>(alloc: Global, disk: D) -> Result<Store<D>, Unmounted<D>>
     // transactions, of which the last has the number `base`, and this tree.
     ensures opens { IfOk result (λ store. (opening : Tree) × Opens store.txns opening
         × IfSome (D.seen disk).told
-            (IsMountedAt (D.seen disk).size store.base store.txns opening)) }
+        (IsMountedAt (D.seen disk).size store.base store.txns opening)) }
 
     // Such an image is mounted, unless the disk fails or memory runs out.
     ensures takes { (r : DiskRecord) (f : Fields) (txns : Transactions) (tree : Tree) →

@@ -43,12 +43,7 @@ impl NodeMap {
     }
 
     /// Puts the node of a path. Where memory is refused nothing changes.
-    pub fn put(
-        &mut self,
-        alloc: Global,
-        path: &[Name],
-        node: LockKey,
-    ) -> Result<(), AllocError>
+    pub fn put(&mut self, alloc: Global, path: &[Name], node: LockKey) -> Result<(), AllocError>
         ensures ok { OnOk result (self.new ≡ map.insert self.old path.now node) }
         ensures err { OnErr result (self.new ≡ self.old) }
     {

@@ -103,7 +103,7 @@ fn prepare(alloc: Global, sup: &Super, contents: Contents) -> Result<Prepared, A
     requires { (seen : DiskSeen) × IsRead seen (fields_of sup.now) contents }
     ensures { (seen : DiskSeen) → (is : IsRead seen (fields_of sup.now) contents) →
         IfOk result (λ p. IsPrepared seen.size (fields_of sup.now) (read_of contents is.blocks)
-            p.session p.ring p.pool) }
+        p.session p.ring p.pool) }
 {
     let pool = pool_for(alloc, sup.ring)?;
     let ring = Ring::at(

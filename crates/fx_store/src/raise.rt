@@ -8,8 +8,8 @@ ghost use Rattle.fx_log.specs.Chosen.{next_generation};
 ghost use Rattle.fx_log.specs.Raising.{ChoosesNext};
 ghost use Rattle.fx_store.specs.Opening.{Raises, TellsChosen};
 
-use fx_base::zero_block;
 use crate::opening::Found;
+use fx_base::zero_block;
 use fx_disk::{Disk, DiskFailed};
 use fx_super::{Super, Which, encode_super};
 

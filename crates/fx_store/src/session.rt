@@ -167,7 +167,7 @@ impl Session {
         ensures plan { (items : ItemMap) (at : ℕ) (text : List ℕ) → IsSession items self.now →
             refused (do_step self.now.tree (Step.Write path.now at text)).0 ≡ None →
             IfOk result (λ plan. IsPlan items self.now.nodes self.now.next
-                (Step.Write path.now at text) (items_of plan.items) plan.next) }
+            (Step.Write path.now at text) (items_of plan.items) plan.next) }
     {
         let Some(node) = self.nodes.get(path.as_slice()) else {
             unreachable!();
@@ -188,7 +188,7 @@ impl Session {
         ensures session { (items : ItemMap) → IsSession items self.old → IsSession items self.new }
         ensures plan { (items : ItemMap) → IsSession items self.old → IfOk result (λ plan.
             IsPlan items self.new.nodes self.new.next
-                (new_step kind path.now) (items_of plan.items) plan.next) }
+            (new_step kind path.now) (items_of plan.items) plan.next) }
     {
         let Some((name, above)) = path.as_slice().split_last() else {
             unreachable!();
@@ -217,9 +217,9 @@ impl Session {
         requires room { vec_len self.old.history < vec_capacity self.old.history }
         ensures refused { OnErr result (self.new ≡ self.old) }
         ensures done { OnOk result (self.new ≡ record self.old {
-            tree = (do_step self.old.tree step.now).1;
-            history = self.new.history;
-            next = next;
+          tree = (do_step self.old.tree step.now).1;
+          history = self.new.history;
+          next = next;
         }) }
         ensures history { OnOk result
             (self.new.history.items ≡ self.old.history.items ++ entry ∷ []) }
@@ -239,8 +239,8 @@ impl Session {
         requires few { self.old.settled ≤ vec_len self.old.history }
         requires first { SettledFirst self.old.settled self.old.history.items }
         ensures same { self.new ≡ record self.old {
-            settled = length self.old.history.items;
-            history = self.new.history;
+          settled = length self.old.history.items;
+          history = self.new.history;
         } }
         ensures history { self.new.history.items ≡ settle calls self.old.history.items }
     {

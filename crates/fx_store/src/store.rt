@@ -41,14 +41,14 @@ impl<D: Disk> Model for Store<D> {
     ghost Value = { State D };
 
     ghost view = { λ s. record {
-        disk = s.disk;
-        from = s.from;
-        base = s.session.base;
-        txns = txns_of s.session.txns;
-        history = s.session.history.items;
-        ring = s.ring.size;
-        live = live s.ring;
-        waiting = s.ring.queued + begun s.ring.text;
+      disk = s.disk;
+      from = s.from;
+      base = s.session.base;
+      txns = txns_of s.session.txns;
+      history = s.session.history.items;
+      ring = s.ring.size;
+      live = live s.ring;
+      waiting = s.ring.queued + begun s.ring.text;
     } };
 
     ghost invariant = { λ s. IsStore (D.seen s.disk) s.from s.session s.ring s.pool };
@@ -82,7 +82,7 @@ impl<D: Disk> Store<D> {
         requires { TaskKeepsRules task.now }
         ensures ends { (opening : Tree) → Opens self.old.txns opening →
             EndsNext opening self.old.base self.old.history self.new.history
-                task.now result.at result.kind }
+            task.now result.at result.kind }
         ensures takes { TakesRing self.old self.new result.kind }
         ensures still { task.now.line ≢ Line.Sync → LeavesDisk self.old self.new }
         ensures syncs { task.now.line ≡ Line.Sync →
@@ -110,7 +110,7 @@ impl<D: Disk> Store<D> {
         ensures ends { (opening : Tree) (task : Task) → Opens self.old.txns opening →
             task.line ≡ Line.Single step.now →
             EndsNext opening self.old.base self.old.history self.new.history
-                task result.at result.kind }
+            task result.at result.kind }
         ensures looks { Looks result.kind }
         ensures same { self.new ≡ self.old }
     {
@@ -126,7 +126,7 @@ impl<D: Disk> Store<D> {
         requires line { task.now.line ≡ Line.Single step.now }
         ensures ends { (opening : Tree) → Opens self.old.txns opening →
             EndsNext opening self.old.base self.old.history self.new.history
-                task.now result.at result.kind }
+            task.now result.at result.kind }
         ensures changes { Changes result.kind }
         ensures takes { TakesRing self.old self.new result.kind }
         ensures still { LeavesDisk self.old self.new }
@@ -158,13 +158,11 @@ impl<D: Disk> Store<D> {
     fn sync_line(&mut self) -> Outcome
         ensures ends { (opening : Tree) (task : Task) → task.line ≡ Line.Sync →
             EndsNext opening self.old.base self.old.history self.new.history
-                task result.at result.kind }
+            task result.at result.kind }
         ensures takes { TakesRing self.old self.new result.kind }
-        ensures syncs {
-            EndsSync (D.seen self.old.disk) (D.seen self.new.disk) self.old self.new result.kind }
+        ensures syncs { EndsSync (D.seen self.old.disk) (D.seen self.new.disk) self.old self.new result.kind }
         ensures faults { TellsFaults (D.seen self.old.disk) (D.seen self.new.disk) result.kind }
-        ensures each {
-            WritesEach 1 (D.seen self.old.disk) (D.seen self.new.disk) self.old self.new }
+        ensures each { WritesEach 1 (D.seen self.old.disk) (D.seen self.new.disk) self.old self.new }
         ensures mount { SameMount self.old self.new }
         ensures goes { GoesOn (D.seen self.old.disk) (D.seen self.new.disk) }
     {
@@ -189,8 +187,8 @@ impl<D: Disk> Store<D> {
     /// still waits, and nothing is settled.
     pub fn sync(&mut self) -> Result<Mark, DiskFailed>
         ensures mark { IfOk result (λ mark. mark ≡ record {
-            number = self.old.base + length self.old.history;
-            calls = (D.seen self.new.disk).calls;
+          number = self.old.base + length self.old.history;
+          calls = (D.seen self.new.disk).calls;
         }) }
         ensures settled { OnOk result
             (self.new.history ≡ settle (D.seen self.new.disk).calls self.old.history) }
@@ -206,8 +204,7 @@ impl<D: Disk> Store<D> {
         // that waited was written by one call or waits still, and at most one call more was made.
         ensures failed { OnErr result
             ((self.new.history ≡ self.old.history) × HasFailedLast (D.seen self.new.disk)) }
-        ensures each {
-            WritesEach 1 (D.seen self.old.disk) (D.seen self.new.disk) self.old self.new }
+        ensures each { WritesEach 1 (D.seen self.old.disk) (D.seen self.new.disk) self.old self.new }
 
         ensures mount { SameMount self.old self.new × (self.new.live ≡ self.old.live) }
         ensures called { HasCalled (D.seen self.old.disk) (D.seen self.new.disk) (is_ok result) }
@@ -231,8 +228,7 @@ impl<D: Disk> Store<D> {
             (WroteAll (D.seen self.old.disk) (D.seen self.new.disk) self.old self.new) }
         ensures last { OnErr result (HasFailedLast (D.seen self.new.disk)) }
         ensures history { self.new.history ≡ self.old.history }
-        ensures each {
-            WritesEach 1 (D.seen self.old.disk) (D.seen self.new.disk) self.old self.new }
+        ensures each { WritesEach 1 (D.seen self.old.disk) (D.seen self.new.disk) self.old self.new }
         ensures mount { SameMount self.old self.new × (self.new.live ≡ self.old.live) }
         ensures called { HasCalled (D.seen self.old.disk) (D.seen self.new.disk) (is_ok result) }
     {
@@ -282,8 +278,7 @@ impl<D: Disk> Store<D> {
             (FlushedAll (D.seen self.old.disk) (D.seen self.new.disk) self.old self.new) }
         ensures failed { OnErr result
             ((self.new.history ≡ self.old.history) × HasFailedLast (D.seen self.new.disk)) }
-        ensures each {
-            WritesEach 1 (D.seen self.old.disk) (D.seen self.new.disk) self.old self.new }
+        ensures each { WritesEach 1 (D.seen self.old.disk) (D.seen self.new.disk) self.old self.new }
         ensures mount { SameMount self.old self.new × (self.new.live ≡ self.old.live) }
         ensures called { HasCalled (D.seen self.old.disk) (D.seen self.new.disk) (is_ok result) }
     {

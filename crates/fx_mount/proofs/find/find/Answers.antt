@@ -17,7 +17,7 @@ pub found_in-requires-clause-slots : goal.found_in-requires-clause-slots
 found_in-requires-clause-slots g c = (
   c.in_ok-first.ensures.decoded.0 ∷ c.in_ok-second.ensures.decoded.0 ∷ [],
   slots-two (g.D.Disk.seen c.args.disk.now) (g.D.Disk.seen c.read_slot.new.disk) c.read_slot.ensures.only c.in_ok-first.first c.in_ok-second.second
-    c.in_ok-first.ensures.decoded c.in_ok-second.ensures.decoded,
+      c.in_ok-first.ensures.decoded c.in_ok-second.ensures.decoded,
 )
 
 pub returns-in-Err-clause-cause : goal.returns-in-Err-clause-cause
