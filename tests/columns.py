@@ -13,7 +13,7 @@ import sys
 ROOT = pathlib.Path(__file__).resolve().parent.parent
 MOST = 100
 # Crates whose lines are still to be broken.
-TO_COME = {"fx_item", "fxfs"}
+TO_COME = {"fx_item"}
 
 CLAUSE = re.compile(r"\s*(requires|ensures|ghost)\b")
 

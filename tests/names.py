@@ -18,9 +18,9 @@ EXCEPTIONS = {
 }
 # Names that stand twice and are still to get names of their own.
 TO_COME = {
-    "DiskSeen", "Flushes", "Gives", "GoesOn", "HasFailed", "Holds", "IsBelow", "IsMade",
-    "IsReady", "IsRefused", "IsWithin", "KeepsOthers", "Knows", "Syncs", "Takes", "bare",
-    "by_path", "bytes_of", "entry_of", "is_synced", "node_at", "node_code", "node_of",
+    "Gives", "GoesOn", "Holds", "IsBelow", "IsMade",
+    "IsReady", "IsWithin", "KeepsOthers", "Knows", "Takes", "bare",
+    "by_path", "bytes_of", "entry_of", "node_at", "node_code", "node_of",
     "place_after", "read_of", "tree_after",
 }
 

@@ -160,9 +160,11 @@ impl<D: Disk> Store<D> {
             EndsNext opening self.old.base self.old.history self.new.history
             task result.at result.kind }
         ensures takes { TakesRing self.old self.new result.kind }
-        ensures syncs { EndsSync (D.seen self.old.disk) (D.seen self.new.disk) self.old self.new result.kind }
+        ensures syncs { EndsSync (D.seen self.old.disk) (D.seen self.new.disk)
+            self.old self.new result.kind }
         ensures faults { TellsFaults (D.seen self.old.disk) (D.seen self.new.disk) result.kind }
-        ensures each { WritesEach 1 (D.seen self.old.disk) (D.seen self.new.disk) self.old self.new }
+        ensures each { WritesEach 1 (D.seen self.old.disk) (D.seen self.new.disk)
+            self.old self.new }
         ensures mount { SameMount self.old self.new }
         ensures goes { GoesOn (D.seen self.old.disk) (D.seen self.new.disk) }
     {
@@ -204,7 +206,8 @@ impl<D: Disk> Store<D> {
         // that waited was written by one call or waits still, and at most one call more was made.
         ensures failed { OnErr result
             ((self.new.history ≡ self.old.history) × HasFailedLast (D.seen self.new.disk)) }
-        ensures each { WritesEach 1 (D.seen self.old.disk) (D.seen self.new.disk) self.old self.new }
+        ensures each { WritesEach 1 (D.seen self.old.disk) (D.seen self.new.disk)
+            self.old self.new }
 
         ensures mount { SameMount self.old self.new × (self.new.live ≡ self.old.live) }
         ensures called { HasCalled (D.seen self.old.disk) (D.seen self.new.disk) (is_ok result) }
@@ -228,7 +231,8 @@ impl<D: Disk> Store<D> {
             (WroteAll (D.seen self.old.disk) (D.seen self.new.disk) self.old self.new) }
         ensures last { OnErr result (HasFailedLast (D.seen self.new.disk)) }
         ensures history { self.new.history ≡ self.old.history }
-        ensures each { WritesEach 1 (D.seen self.old.disk) (D.seen self.new.disk) self.old self.new }
+        ensures each { WritesEach 1 (D.seen self.old.disk) (D.seen self.new.disk)
+            self.old self.new }
         ensures mount { SameMount self.old self.new × (self.new.live ≡ self.old.live) }
         ensures called { HasCalled (D.seen self.old.disk) (D.seen self.new.disk) (is_ok result) }
     {
@@ -278,7 +282,8 @@ impl<D: Disk> Store<D> {
             (FlushedAll (D.seen self.old.disk) (D.seen self.new.disk) self.old self.new) }
         ensures failed { OnErr result
             ((self.new.history ≡ self.old.history) × HasFailedLast (D.seen self.new.disk)) }
-        ensures each { WritesEach 1 (D.seen self.old.disk) (D.seen self.new.disk) self.old self.new }
+        ensures each { WritesEach 1 (D.seen self.old.disk) (D.seen self.new.disk)
+            self.old self.new }
         ensures mount { SameMount self.old self.new × (self.new.live ≡ self.old.live) }
         ensures called { HasCalled (D.seen self.old.disk) (D.seen self.new.disk) (is_ok result) }
     {

@@ -20,7 +20,8 @@ pub fn mkfs_call<D: Disk, K: Sink>(alloc: Global, ring: u32, disk: D, out: &mut 
     requires least { MIN_RING ≤ ring }
     requires most { ring ≤ MAX_RING }
     ensures status { result.status ≡ status_of result.stop }
-    ensures ends { MkfsEnds ring (D.seen disk) (D.seen result.disk) (K.seen out.old) (K.seen out.new)
+    ensures ends { MkfsEnds ring (D.seen disk) (D.seen result.disk)
+        (K.seen out.old) (K.seen out.new)
         (ended result.stop result.base result.history result.outcomes) }
 {
     let mut disk = disk;
