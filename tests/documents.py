@@ -132,8 +132,31 @@ def names_that_are_there():
     return missing, []
 
 
+def squeezed(text):
+    """The text with no white space: its layout does not count."""
+    return re.sub(r"\s+", "", text)
+
+
+def pages_of_the_crates():
+    """Each crate has a page of at most 60 lines, and each line of code that a page shows stands in a test."""
+    tests = squeezed("".join(
+        text_of(file) for file in code_files() if file.endswith(".rt") and ("test" in file or "/mounts" in file)
+    ))
+    wrong = []
+    for name in sorted(os.listdir(os.path.join(TOP, "crates"))):
+        page = os.path.join("crates", name, "README.md")
+        if not os.path.exists(os.path.join(TOP, page)):
+            wrong.append((name, "has no page"))
+            continue
+        if len(text_of(page).splitlines()) > 60:
+            wrong.append((name, "its page is too long"))
+        lines = "".join(fences(page, "rust")).splitlines()
+        wrong.extend((name, line) for line in lines if squeezed(line) not in tests)
+    return wrong, []
+
+
 CHECKS = [
-    sessions_of_the_readme, example_of_the_formats, blocks_of_the_formats, each_crate_once, names_that_are_there,
+    pages_of_the_crates, sessions_of_the_readme, example_of_the_formats, blocks_of_the_formats, each_crate_once, names_that_are_there,
 ]
 
 
