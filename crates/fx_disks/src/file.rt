@@ -1,5 +1,6 @@
 //! A disk over a file.
-ghost use Rattle.std.specs.Prelude.{◌≡◌, ◌<◌, ◌≤◌, ◌^◌, true, false, IfOk, OnErr, is_ok};
+ghost use Rattle.std.specs.Prelude.{◌≡◌, ◌<◌, ◌≤◌, ◌^◌, true, false, [], slice_index_or, IfOk, OnOk, OnErr, is_ok};
+ghost use Rattle.std.specs.Option.{IfSome};
 
 use fx_base::count_up;
 use fx_disk::{BLOCK_BYTES, Disk, DiskFailed, MAX_CALLS};
@@ -102,7 +103,7 @@ fn place_of(at: u32) -> u64 {
 }
 
 impl Disk for FileDisk {
-    ghost use Rattle.fx_disk.specs.Seen.{HasWritten, HasFlushed};
+    ghost use Rattle.fx_disk.specs.Seen.{HasRead, HasWritten, HasFlushed};
     ghost use Rattle.fx_disks.specs.File.{IsHeldBack, seen_of};
 
     ghost seen = { λ d. seen_of d };
@@ -123,7 +124,12 @@ impl Disk for FileDisk {
         self.faults
     }
 
-    fn read(&mut self, at: u32, into: &mut [u8; BLOCK_BYTES]) -> Result<(), DiskFailed> {
+    fn read(&mut self, at: u32, into: &mut [u8; BLOCK_BYTES]) -> Result<(), DiskFailed>
+        ensures bytes { OnOk result
+            (IfSome (seen_of self.old).told (λ r. into.new ≡ slice_index_or r.contents at [])) }
+        ensures read { HasRead (seen_of self.old) (seen_of self.new) (is_ok result) }
+        ensures stays { self.new.writable ≡ self.old.writable }
+    {
         if self.reads < MAX_CALLS {
             self.reads += 1;
             if self.file.read_exact_at(&mut into[..], place_of(at)).is_ok() {
@@ -138,6 +144,7 @@ impl Disk for FileDisk {
         ensures written { HasWritten (seen_of self.old) (seen_of self.new) at from.now
             (is_ok result) }
         ensures refused { self.old.writable ≡ false → IsHeldBack self.old self.new (is_ok result) }
+        ensures stays { self.new.writable ≡ self.old.writable }
     {
         self.last_made = self.writable && self.calls < MAX_CALLS;
         if self.last_made {
@@ -153,8 +160,10 @@ impl Disk for FileDisk {
     fn flush(&mut self) -> Result<(), DiskFailed>
         ensures flushed { HasFlushed (seen_of self.old) (seen_of self.new) (is_ok result) }
         ensures refused { self.old.writable ≡ false → IsHeldBack self.old self.new (is_ok result) }
-        // From a flush that failed on every write and flush is refused.
+        // A flush that failed shuts the disk, and no call opens it again: each write and flush from then
+        // on is refused.
         ensures shut { OnErr result (self.new.writable ≡ false) }
+        ensures stays { OnOk result (self.new.writable ≡ self.old.writable) }
     {
         self.last_made = self.writable && self.calls < MAX_CALLS;
         if self.last_made {

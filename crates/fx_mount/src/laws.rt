@@ -1,10 +1,14 @@
 //! What holds of images that are mounted, for those who prove: the functions do nothing.
 ghost use Rattle.std.specs.Prelude.{ℕ, List, []};
-ghost use Rattle.fx_plain.specs.Tree.{Tree};
+ghost use Rattle.fx_disk.specs.Record.{DiskRecord, LeftNow};
+ghost use Rattle.fx_disk.specs.Settled.{IsSettled};
+ghost use Rattle.fx_disk.specs.Steps.{IsRecordOf};
+ghost use Rattle.fx_plain.specs.Tree.{Tree, root};
 ghost use Rattle.fx_history.specs.declared.entry.Entry.{Entry};
 ghost use Rattle.fx_super.specs.Super.{Fields, first_fields};
 ghost use Rattle.fx_image.specs.Prefix.{IsPrefix};
-ghost use Rattle.fx_image.specs.Standing.{HasAmpleRoom, Transactions};
+ghost use Rattle.fx_image.specs.Standing.{HasAmpleRoom, IsImage, Transactions};
+ghost use Rattle.fx_mount.specs.Formatted.{IsFormatted};
 ghost use Rattle.fx_mount.specs.Found.{IsMountable, IsRefused};
 ghost use Rattle.fx_mount.specs.declared.fault.MountFault.{MountFault};
 
@@ -20,7 +24,14 @@ pub fn image_laws()
         IsRefused size image fault → ⊥ }
 {}
 
-/// The numbers of a disk that was formatted leave ample room.
+/// What a format leaves of a disk on which nothing was loose: an image with the first superblock, no
+/// transactions, and the root alone, which a session can go on from.
 pub fn formatted_laws()
+    ensures image { (size ring calls : ℕ) (before after : DiskRecord) (image : List (List ℕ)) →
+        IsSettled before → IsRecordOf size calls after → IsFormatted size ring before after →
+        LeftNow after image → IsImage size image (first_fields size ring) [] root }
+    ensures mounts { (size ring calls : ℕ) (before after : DiskRecord) (image : List (List ℕ)) →
+        IsSettled before → IsRecordOf size calls after → IsFormatted size ring before after →
+        LeftNow after image → IsMountable size image (first_fields size ring) [] root }
     ensures room { (size ring : ℕ) → HasAmpleRoom (first_fields size ring) [] }
 {}

@@ -15,7 +15,8 @@ use Rattle.std.proofs.lemmas.Str.Parse.{parse_digits}
 use Rattle.fx_script.proofs.Numbers.{are_digits, own}
 use Rattle.fxfs.specs.declared.command.Command.{Command}
 use Rattle.fxfs.specs.declared.command.Command.TheVariants.{Mkfs}
-use Rattle.fxfs.specs.declared.command.TheConstants.{MIN_RING, MAX_RING, MOST_DIGITS}
+use Rattle.fx_super.specs.declared.superblock.TheConstants.{MIN_RING, MAX_RING}
+use Rattle.fxfs.specs.declared.command.TheConstants.{MOST_DIGITS}
 use Rattle.fxfs.specs.Command.{is_count, is_ring, mkfs_with, mkfs_of, shell_of, command_of}
 
 pub record IsRing (ring : ℕ) : Type 0 where

@@ -9,7 +9,8 @@ use Rattle.fxfs.specs.declared.command.Command.{Command}
 use Rattle.fxfs.specs.declared.command.Command.TheVariants.{Shell, Mkfs}
 use Rattle.fxfs.specs.declared.command.WordsFault.{WordsFault}
 use Rattle.fxfs.specs.declared.command.WordsFault.TheVariants.{BadWords}
-use Rattle.fxfs.specs.declared.command.TheConstants.{MIN_RING, MAX_RING, MOST_DIGITS}
+use Rattle.fx_super.specs.declared.superblock.TheConstants.{MIN_RING, MAX_RING}
+use Rattle.fxfs.specs.declared.command.TheConstants.{MOST_DIGITS}
 
 -- 1 to 20 digits, and nothing else
 abbrev pub is_count : List ℕ → Bool

@@ -11,8 +11,7 @@ use Rattle.fxfs.specs.Stop.{mkfs_line}
 use Rattle.fxfs.specs.Outside.{End, IsIdle, IsStopped, Prints, FailsIn}
 
 -- The disk has room for the ring and was formatted with it, with no fault. If nothing of it was
--- loose,
--- every image left now is one to mount, and stands for the root alone.
+-- loose, every image left now is one to mount, and stands for the root alone.
 pub record IsNowFormatted (ring : ℕ) (before after : DiskSeen) : Type 0 where
   pub made : HasFormatted ring before after
   pub formats : BothTell (IsFormatted before.size ring) before.told after.told

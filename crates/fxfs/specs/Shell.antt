@@ -29,8 +29,7 @@ use Rattle.fxfs.specs.Outside.{Outside, End, IsStopped}
 use Rattle.fxfs.specs.Lines.{Spells, IsScript, IsNoScript, IsDurable, IsNotDurable, Tells, TellsUnsynced, synced_in, faults_in}
 
 -- No line was run, and the disk was read at most, with no fault. Every image left stands for the
--- tree
--- that it was.
+-- tree that it was.
 pub record HasNotRun (before after : Outside) (end : End) : Type 0 where
   pub stopped : IsStopped before.sink after.sink end
   pub disk : HasReadWell before.disk after.disk
@@ -59,8 +58,7 @@ pub record AreFaults (before after : ℕ) (outcomes : List LineEnd) : Type 0 whe
       → latter.kind ≡ ends.DeviceFault later → Rose earlier later
 
 -- A sync that was done once the disk had made the first calls, and before it had made more than the
--- last:
--- the last of so many calls is a flush that was good.
+-- last: the last of so many calls is a flush that was good.
 pub record IsSync (first last : ℕ) (told : Option DiskRecord) (calls : ℕ) : Type 0 where
   pub later : first < calls
   pub within : calls ≤ last
@@ -108,16 +106,16 @@ pub record AreFull (ring live base : ℕ) (outcomes : List LineEnd) : Type 0 whe
       → slice_get outcomes j ≡ Some latter
       → (full : Full) → former.kind ≡ ends.Full full → latter.kind ≢ ends.Committed
 
--- What the lines tell of the disk is so: its faults and its syncs. Where none tells a fault there was
--- none, and each line that synced made a call at least.
+-- What the lines tell of the disk is so: its faults and its syncs. Where none tells a fault there
+-- was none, and each line that synced made a call at least.
 pub record AreTold (before after : DiskSeen) (outcomes : List LineEnd) : Type 0 where
   pub faults : AreFaults before.faults after.faults outcomes
   pub unfailed : faults_in outcomes ≡ 0 → after.faults ≡ before.faults
   pub syncs : AreSyncs before.calls after.calls after.told outcomes
   pub least : before.calls + synced_in outcomes ≤ after.calls
 
--- The lines were run, one after another, from this tree on, and the disk was flushed or failed then.
--- What they tell of the disk and of its ring is so.
+-- The lines were run, one after another, from this tree on, and the disk was flushed or failed
+-- then. What they tell of the disk and of its ring is so.
 pub record AreRun (ring live : ℕ) (opening : Tree) (before after : DiskSeen) (tasks : List Task)
     (end : End) : Type 0 where
   pub session : Session opening end.base end.history tasks end.outcomes

@@ -5,14 +5,9 @@ ghost use Rattle.std.specs.List.{list_all};
 ghost use Rattle.std.specs.Char.{is_ascii_digit};
 ghost use Rattle.fxfs.specs.Command.{IsCommandOf, command_of, is_count, mkfs_of, mkfs_with, shell_of};
 
+use fx_super::{MAX_RING, MIN_RING};
 use std::str;
 use thiserror::Error;
-
-/// The fewest blocks of a ring, and as many as it has where the words do not say.
-pub const MIN_RING: u32 = 256;
-
-/// The most blocks of a ring.
-pub const MAX_RING: u32 = 1_024;
 
 /// The most digits of a number among the words.
 pub const MOST_DIGITS: usize = 20;
@@ -35,7 +30,8 @@ pub enum WordsFault {
 }
 
 /// The command that the words are: `shell` alone, or `mkfs`, with `--journal N` or `--journal=N` once
-/// or not at all. N has 1 to 20 digits. Takes no memory.
+/// or not at all. N has 1 to 20 digits; a ring has [`MIN_RING`] blocks where the words do not say.
+/// Takes no memory.
 pub fn command_of(words: &[String]) -> Result<Command, WordsFault>
     ensures { IsCommandOf result (map string_bytes words.now) }
 {
