@@ -132,6 +132,28 @@ def names_that_are_there():
     return missing, []
 
 
+def picture_of_an_image():
+    """The blocks of the picture in the architecture hold what it says."""
+    lines = "mkdir /v\ncreate /v/a\nwrite /v/a 0 hi\nsync\nmkdir /v/b\n"
+    _, blocks = on_image(1088, ("mkfs", ""), ("shell", lines))
+    picture = next(part for part in fences("docs/ARCHITECTURE.md") if part.startswith("  block "))
+    places = re.findall(r"\d+", picture.splitlines()[0])
+    held = re.findall(r"(super|seq) (\d+)", picture)
+    got = [
+        [at for at, block in enumerate(blocks) if any(block)],
+        [int.from_bytes(block[16:24], "little") for block in blocks[:2]],
+        [int.from_bytes(block[:8], "little") for block in blocks[2:4]],
+        places[4:],
+    ]
+    want = [
+        [int(place) for place in places[:4]],
+        [int(number) for word, number in held if word == "super"],
+        [int(number) for word, number in held if word == "seq"],
+        ["4", str(2 + 256 - 1), str(2 + 256), str(len(blocks) - 1)],
+    ]
+    return got, want
+
+
 def squeezed(text):
     """The text with no white space: its layout does not count."""
     return re.sub(r"\s+", "", text)
@@ -156,7 +178,7 @@ def pages_of_the_crates():
 
 
 CHECKS = [
-    pages_of_the_crates, sessions_of_the_readme, example_of_the_formats, blocks_of_the_formats, each_crate_once, names_that_are_there,
+    pages_of_the_crates, picture_of_an_image, sessions_of_the_readme, example_of_the_formats, blocks_of_the_formats, each_crate_once, names_that_are_there,
 ]
 
 
