@@ -1,0 +1,12 @@
+pub mod Points
+pub mod Files
+pub mod Standing
+pub mod Amiss
+pub mod Rewrites
+pub mod Writes
+pub mod Staged
+pub mod Cuts
+pub mod Removal
+pub mod Marks
+pub mod Allocated
+pub mod Plans
