@@ -4,3 +4,4 @@ pub mod SpaceKept
 pub mod SpaceMoves
 pub mod SpaceOpened
 pub mod SpaceLaws
+pub mod SpaceLaid

@@ -6,7 +6,7 @@ use Rattle.fx_item.specs.declared.space.Beyond.{Beyond}
 use Rattle.fx_item.specs.declared.space.TheConstants.{MAX_GIVEN}
 use Rattle.fx_item.specs.SpaceRule.{layer_bound, NeedsNothing, FitsCounted, HasIds}
 use Rattle.fx_alloc.specs.declared.uses.Use.{Use}
-use Rattle.fx_alloc.specs.declared.uses.Use.TheVariants.{Free, Drawn, Live, Freed, Layer}
+use Rattle.fx_alloc.specs.declared.uses.Use.TheVariants.{Free, Drawn, Live, Freed, Layer, Laid}
 use Rattle.fx_alloc.specs.declared.uses.Waiting.{Waiting}
 use Rattle.fx_alloc.specs.declared.holders.Holder.{Holder}
 use Rattle.fx_alloc.specs.declared.holders.TheConstants.{VACANT}
@@ -174,6 +174,22 @@ drawing s block seat = record s {
   uses = slice_set s.uses block (Drawn seat);
   holders = slice_set s.holders seat (having_drawn (holder_at s.holders seat));
 }
+
+-- what was laid for a checkpoint is free again
+abbrev pub unlaid : Use → Use
+unlaid Laid = Free
+unlaid u = u
+
+-- the layers may be written anew: as many blocks as they may take are set aside, and none is laid
+abbrev pub setting_aside : Space → Space
+setting_aside s = record s { uses = map unlaid s.uses; aside = Some (bound_with s no_need) }
+
+-- a block is set aside and not yet laid
+abbrev pub HasAside : Space → Type 0
+HasAside s = 0 < left_aside s.aside (laid_of s)
+
+abbrev pub laying : Space → ℕ → Space
+laying s block = record s { uses = slice_set s.uses block Laid }
 
 -- what was drawn from this seat has another use
 abbrev pub turned : ℕ → Use → Use → Use

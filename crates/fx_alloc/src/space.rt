@@ -2,10 +2,10 @@
 ghost use Rattle.std.specs.Prelude.{◌≡◌, ℕ, ◌+◌, ◌*◌, ◌^◌, ◌<◌, ◌≤◌, ◌↔◌, ◌++◌, ◌∷◌, [], All, length, IfOk, IfErr, IfSome, IsOk, IsTrue, IsNone, OnOk, OnErr, MatchBool, MatchOption, slice_set};
 ghost use Rattle.fx_alloc.specs.Uses.{use_at, put_all, StandOnce};
 ghost use Rattle.fx_alloc.specs.Holders.{held_seat, vacant_seat};
-ghost use Rattle.fx_alloc.specs.Space.{PassesCounts, IsOver, IsFree, CanReserve, HasSeat, CanSit, beyond_of, nodes_with, attributes_with, blocks_with, bound_with, free_count, laid_of, left_aside, HoldsBlock, opened, freeing, settling, seat_given, reserved, drawing, holder_ended, holder_at, settled_blocks, left_waiting, IsLatest};
+ghost use Rattle.fx_alloc.specs.Space.{PassesCounts, IsOver, IsFree, CanReserve, HasSeat, CanSit, beyond_of, nodes_with, attributes_with, blocks_with, bound_with, free_count, laid_of, left_aside, HoldsBlock, opened, freeing, settling, seat_given, reserved, drawing, holder_ended, holder_at, settled_blocks, left_waiting, IsLatest, HasAside, laying, CanSetAside, setting_aside, no_need};
 ghost use Rattle.fx_alloc.specs.Inside.{IsSoundSpace};
 
-use crate::chain::{Chain, chain_up, release};
+use crate::chain::{Chain, chain_up, release, turn};
 use crate::hints::{new_hints, note};
 use crate::holders::{
     Holder, SEATS, VACANT, all_attributes, all_drawn, all_held, all_nodes, find_seat, find_vacant,
@@ -348,6 +348,82 @@ impl Space {
         self.links[at] = before;
         self.heads[seat] = block;
         self.holders[seat] = holder;
+        self.free -= 1;
+        self.last = block + 1;
+        block
+    }
+
+    // The bound on the layer blocks, if as many blocks are free, those that are laid counted as free.
+    fn bound_to_set_aside(&self) -> Option<u64>
+        ensures some { IfSome result (λ bound. (bound ≡ bound_with self.now no_need)
+            × CanSetAside self.now) }
+        ensures none { IsNone result ↔ (CanSetAside self.now → ⊥) }
+    {
+        let bound = self.bound_with(Need::default());
+        let free = u64::from(self.free) + u64::from(self.laid.len);
+        if all_held(self.holders.as_slice()) + bound <= free {
+            return Some(bound);
+        }
+        None
+    }
+
+    /// Sets as many free blocks aside as the layers may take; a checkpoint that is open begins anew, and what it had
+    /// laid is free. `Short` exactly where fewer are free. Takes no memory. Costs the blocks that were laid.
+    pub fn aside(&mut self) -> Result<(), Short>
+        ensures ok { IsOk result ↔ CanSetAside self.old }
+        ensures aside { OnOk result (self.new ≡ setting_aside self.old) }
+        ensures counted { IfErr result (λ short. MatchBool short.counted
+            (IsOver self.old no_need) (PassesCounts self.old no_need)) }
+        ensures beyond { IfErr result (λ short. short.beyond ≡ beyond_of self.old) }
+        ensures err { OnErr result (self.new ≡ self.old) }
+    {
+        let Some(bound) = self.bound_to_set_aside() else {
+            let counted = !self.is_counted(Need::default());
+            let beyond = self.beyond();
+            return Err(Short { counted, beyond });
+        };
+        let laid = self.laid;
+        turn(
+            self.uses.as_mut_slice(),
+            self.hints.as_mut_slice(),
+            self.links.as_slice(),
+            laid,
+            Use::Free,
+        );
+        self.laid = Chain { head: 0, len: 0 };
+        self.free += laid.len;
+        self.aside = Some(bound as u32);
+        Ok(())
+    }
+
+    /// Whether a block is set aside for the open checkpoint and not yet laid.
+    pub fn has_aside(&self) -> bool
+        ensures { IsTrue result ↔ HasAside self.now }
+    {
+        self.left_aside() > 0
+    }
+
+    /// Lays one of the blocks set aside for the layers of the open checkpoint: the first free one from the last draw
+    /// on. Takes no memory.
+    pub fn layer_block(&mut self) -> u32
+        requires { HasAside self.old }
+        ensures free { use_at self.old.uses result ≡ Use.Free }
+        ensures laid { self.new ≡ laying self.old result }
+    {
+        let at = next_free(
+            self.uses.as_slice(),
+            self.hints.as_slice(),
+            self.last as usize,
+        );
+        let block = at as u32;
+        let before = self.laid;
+        self.uses[at] = Use::Laid;
+        note(self.hints.as_mut_slice(), at, Use::Laid);
+        self.links[at] = before.head;
+        self.laid = Chain {
+            head: block,
+            len: before.len + 1,
+        };
         self.free -= 1;
         self.last = block + 1;
         block

@@ -100,3 +100,19 @@ fn freed_and_settled(rt: HostRuntime) -> Result<(), AllocError> {
     assert_eq!(rt; space.free(), 830);
     Ok(())
 }
+
+// Blocks set aside are laid one by one; set aside anew, what was laid is free.
+#[test]
+fn checkpoint_blocks(rt: HostRuntime) -> Result<(), AllocError> {
+    let mut space = disk(rt.alloc())?;
+    assert!(rt; !space.has_aside());
+    assert!(rt; space.aside().is_ok());
+    assert!(rt; space.has_aside());
+    assert_eq!(rt; space.layer_block(), 258);
+    assert!(rt; space.use_of(258) == Use::Laid);
+    assert_eq!(rt; space.free(), 829);
+    assert!(rt; space.aside().is_ok());
+    assert!(rt; space.use_of(258) == Use::Free);
+    assert_eq!(rt; space.free(), 830);
+    Ok(())
+}
