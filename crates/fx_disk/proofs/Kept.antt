@@ -3,7 +3,7 @@ use Rattle.std.proofs.Common.{◌≡◌, ℕ, ◌+◌, ◌≤◌, ◌<◌, List,
 use Rattle.std.proofs.lemmas.Bool.{cases_lt}
 use Rattle.fx_disk.specs.Record.{Call, Write, Flush, DiskRecord, Cell, Left, cell_at, cell_now}
 use Rattle.fx_disk.specs.Steps.{with_call}
-use Rattle.fx_disk.specs.Always.{Always, HoldsNow, Gives}
+use Rattle.fx_disk.specs.Always.{Always, HoldsNow, Implies}
 use Rattle.fx_disk.proofs.Left.{Left-earlier, Left-now, Left-at_now, Left-within_write, Left-within_flush, Left-after, cells-earlier, cells-now, cells-after, cells-within_write, cells-within_flush, length-with_call}
 
 le-cases : (m n : ℕ) → m ≤ n + 1 → (m < n) ⊎ ((m ≡ n) ⊎ (m ≡ n + 1))
@@ -27,7 +27,7 @@ by_moment Q from s n len since earlier within after = record {
 
 module _ (P Q : (ℕ → Cell) → ℕ → List (List ℕ) → Type 0) (from : ℕ) (r : DiskRecord) (contents : List (List ℕ)) (call : Call) where
   -- `P` at the moments before the last call gives `Q` at them over one more call
-  old-moments : Always P from r → Gives P Q from r → (m : ℕ) (image : List (List ℕ)) → from ≤ m → m < length r.calls → Left (with_call r call contents) m image → Q (cell_at (with_call r call contents) m) m image
+  old-moments : Always P from r → Implies P Q from r → (m : ℕ) (image : List (List ℕ)) → from ≤ m → m < length r.calls → Left (with_call r call contents) m image → Q (cell_at (with_call r call contents) m) m image
   old-moments always old m image ge lt left =
       let left' : Left r m image = Left-earlier r call contents m image lt left in
       subst (λ (cells : ℕ → Cell). Q cells m image) (sym (cells-earlier r call contents m lt))
@@ -42,7 +42,7 @@ module _ (P Q : (ℕ → Cell) → ℕ → List (List ℕ) → Type 0) (from : �
 
 -- within a write may be left what is left after it, and within a flush what was left before
 module _ (P Q : (ℕ → Cell) → ℕ → List (List ℕ) → Type 0) (from : ℕ) (r : DiskRecord) (contents : List (List ℕ)) where
-  pub Always-write : (at : ℕ) (bytes : List ℕ) (ok : Bool) → Always P from r → Gives P Q from r
+  pub Always-write : (at : ℕ) (bytes : List ℕ) (ok : Bool) → Always P from r → Implies P Q from r
       → ((cells : ℕ → Cell) (m : ℕ) (image : List (List ℕ)) → Q cells (m + 1) image → Q cells m image)
       → HoldsNow Q (with_call r (Write at bytes ok) contents)
       → Always Q from (with_call r (Write at bytes ok) contents)
@@ -54,7 +54,7 @@ module _ (P Q : (ℕ → Cell) → ℕ → List (List ℕ) → Type 0) (from : �
       (after image (Left-within_write r at bytes ok contents image left)))))
       (new-moment P Q from r contents (Write at bytes ok) after)
 
-  pub Always-flush : (ok : Bool) → Always P from r → Gives P Q from r → HoldsNow Q (with_call r (Flush ok) contents) → Always Q from (with_call r (Flush ok) contents)
+  pub Always-flush : (ok : Bool) → Always P from r → Implies P Q from r → HoldsNow Q (with_call r (Flush ok) contents) → Always Q from (with_call r (Flush ok) contents)
   Always-flush ok always old after = by_moment Q from (with_call r (Flush ok) contents) (length r.calls)
       (length-with_call r (Flush ok) contents) always.since
       (old-moments P Q from r contents (Flush ok) always old)
@@ -81,7 +81,7 @@ Always-now P from r always image left =
     (always.each _ image always.since (omega arith) (Left-at_now r image left))
 
 -- what follows from it at each moment
-pub Always-map : (P Q : (ℕ → Cell) → ℕ → List (List ℕ) → Type 0) (from : ℕ) (r : DiskRecord) → Gives P Q from r → Always P from r → Always Q from r
+pub Always-map : (P Q : (ℕ → Cell) → ℕ → List (List ℕ) → Type 0) (from : ℕ) (r : DiskRecord) → Implies P Q from r → Always P from r → Always Q from r
 Always-map P Q from r old always = record {
   since = always.since;
   each = λ m image ge le left. old m image ge le left (always.each m image ge le left);

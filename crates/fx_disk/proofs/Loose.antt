@@ -4,7 +4,7 @@ use Rattle.std.proofs.lemmas.Bool.{cases_lt, cases_Bool}
 use Rattle.std.proofs.lemmas.Bool.Decides.{eqb_tells}
 use Rattle.std.proofs.Math.Seq.{take-suc}
 use Rattle.fx_disk.specs.Record.{DiskRecord, Call, Write, Flush, Cell, Left, call_at, cell_first, cell_after, cell_at, settled_cell, written_cell, flushed_cell, after_call, after_calls, within_call}
-use Rattle.fx_disk.specs.Loose.{IsGoodFlush, IsWriteOf, HasFailed, bytes_of, IsLastFlush, IsLastWrite, IsWrittenFrom, LastFailed, IsLoose, IsLooseAt, IsLastBytes, IsLeft}
+use Rattle.fx_disk.specs.Loose.{IsGoodFlush, IsWriteOf, HasFailed, payload, IsLastFlush, IsLastWrite, IsWrittenFrom, LastFailed, IsLoose, IsLooseAt, IsLastBytes, IsLeft}
 use Rattle.fx_disk.proofs.Left.{after_calls-append}
 
 not-true : (ok : Bool) → not ok ≡ true → ok ≡ false
@@ -132,7 +132,7 @@ module _ (r : DiskRecord) (b n : ℕ) where
             (cases_lt f.0 n);
         flushes = h.flushes;
         last = same-flush h.flushes nope h.last;
-        bytes = inl (n, last-here writes, sym (ap bytes_of is));
+        bytes = inl (n, last-here writes, sym (ap payload is));
       }
 
   -- a successful flush
@@ -220,7 +220,7 @@ SaysAt-write r b m cell at bytes ok is same h =
     record {
       loose = λ _. record { flushes = h.flushes; last = h.last; cause = inl (m, h.last.within, omega arith, writes) };
       fixed = λ e. absurd (cc);
-      bytes = inl (m, last-here r b m writes, sym (ap bytes_of is));
+      bytes = inl (m, last-here r b m writes, sym (ap payload is));
     }
 
 SaysAt-step : (r : DiskRecord) (b m : ℕ) (call : Call) (cell : Cell) → call_at r.calls m ≡ call → Says r b m cell → SaysAt r b m (within_call b call cell)
@@ -253,7 +253,7 @@ same-place calls b n j k h l = ⊎_elim
 pub last_bytes-unique : (r : DiskRecord) (b n : ℕ) (xs ys : List ℕ) → IsLastBytes r b n xs → IsLastBytes r b n ys → xs ≡ ys
 last_bytes-unique r b n xs ys h l = ⊎_elim
     (λ w. ⊎_elim
-    (λ v. w.2 ∙ ap (λ (k : ℕ). bytes_of (call_at r.calls k)) (same-place r.calls b n w.0 v.0 w.1 v.1) ∙ sym v.2)
+    (λ v. w.2 ∙ ap (λ (k : ℕ). payload (call_at r.calls k)) (same-place r.calls b n w.0 v.0 w.1 v.1) ∙ sym v.2)
     (λ never. absurd (never.0 w.0 w.1.below w.1.writes))
     l)
     (λ never. ⊎_elim

@@ -1,5 +1,5 @@
 -- Calls that were made, or not.
-use Rattle.std.proofs.Common.{◌≡◌, ℕ, List, ◌+◌, ◌≤◌, Bool, true, false, refl, sym, subst, ◌∙◌, arith, ⊎_elim}
+use Rattle.std.proofs.Common.{◌≡◌, ℕ, List, ◌+◌, Bool, true, false, refl, sym, subst, ◌∙◌, ⊎_elim}
 use Rattle.std.specs.Prelude.{Option, IfSome, Result, Ok, Err, OnOk, is_ok}
 use Rattle.fx_disk.specs.Record.{DiskRecord}
 use Rattle.fx_disk.specs.Steps.{IsRecordOf, Writes, Flushes, MadeOrNot}

@@ -5,7 +5,7 @@ use Rattle.std.proofs.Math.Seq.{get_or-append_seam, ext_get_or}
 use Rattle.std.proofs.lemmas.Bool.{cases_lt, cases_Bool}
 use Rattle.std.proofs.lemmas.Bool.Decides.{eqb_tells}
 use Rattle.fx_disk.specs.Record.{Call, Write, Flush, DiskRecord, Cell, LeftNow, IsBlock, call_at, cell_now, settled_cell, written_cell, flushed_cell}
-use Rattle.fx_disk.specs.Steps.{Holds, with_write, with_flush, IsRecordOf, IsCallOf}
+use Rattle.fx_disk.specs.Steps.{MayHold, with_write, with_flush, IsRecordOf, IsCallOf}
 use Rattle.fx_disk.proofs.Left.{cell_now-with_call}
 use Rattle.fx_disk.proofs.Cells.{after-write, other-block, fixed-after, IsFixed}
 
@@ -29,7 +29,7 @@ not-false : (ok : Bool) → not ok ≡ false → ok ≡ true
 not-false true e = refl
 not-false false e = absurd (cc)
 
-module _ (size calls : ℕ) (r : DiskRecord) (at : ℕ) (bytes : List ℕ) (ok : Bool) (held : List ℕ) (lt : at < size) (holds : Holds bytes ok held) (h : IsRecordOf size calls r) where
+module _ (size calls : ℕ) (r : DiskRecord) (at : ℕ) (bytes : List ℕ) (ok : Bool) (held : List ℕ) (lt : at < size) (holds : MayHold bytes ok held) (h : IsRecordOf size calls r) where
   blocks-write : (b : ℕ) → b < size → IsBlock (get_or (set r.contents at held) b [])
   blocks-write b below = by_block at b (IsBlock (get_or (set r.contents at held) b []))
       (λ e. let lt' : at < length r.contents = omega (arith, h.contents_size) in

@@ -2,8 +2,8 @@
 use Rattle.std.proofs.Common.{◌≡◌, ℕ, ◌<◌, ◌++◌, ◌∷◌, [], List, length, get_or, subst, sym, arith, ⊎_elim, Bool, true, false, Option, Some, None, IfSome}
 use Rattle.std.proofs.lemmas.List.Elements.{Contains-append_left}
 use Rattle.fx_disk.specs.Record.{DiskRecord, Cell}
-use Rattle.fx_disk.specs.Steps.{Writes, Flushes, MadeOrNot, Holds, with_write, with_flush, IsRecordOf}
-use Rattle.fx_disk.specs.Always.{Always, HoldsNow, Gives, HoldsWithin}
+use Rattle.fx_disk.specs.Steps.{Writes, Flushes, MadeOrNot, MayHold, with_write, with_flush, IsRecordOf}
+use Rattle.fx_disk.specs.Always.{Always, HoldsNow, Implies, HoldsWithin}
 use Rattle.fx_disk.specs.Settled.{IsSettled, HasNoFailed, IsChangedAt, IsGoodWrite}
 use Rattle.fx_disk.proofs.Kept.{Always-write, Always-flush, Always-start, Always-now, Always-map}
 use Rattle.fx_disk.proofs.Settled.{changed-begin, changed-write, changed-flush, changed-settled, good-write, good-flush, settled-flush, no_failed-write, no_failed-flush}
@@ -21,7 +21,7 @@ told-both I J K None step h l = h
 told-both I J K (Some r) step h l = step r h l
 
 pub made-write : (I J : DiskRecord → Type 0) (before after : Option DiskRecord) (at : ℕ) (bytes : List ℕ) (ok : Bool) → Writes before after at bytes ok
-    → ((r : DiskRecord) (held : List ℕ) → Holds bytes ok held → I r → J (with_write r at bytes ok held)) → IfSome before I → IfSome after J
+    → ((r : DiskRecord) (held : List ℕ) → MayHold bytes ok held → I r → J (with_write r at bytes ok held)) → IfSome before I → IfSome after J
 made-write I J None after at bytes ok w step h = rw w h
 made-write I J (Some r) after at bytes ok w step h = rw w.2 (step r w.0 w.1 h)
 
@@ -32,7 +32,7 @@ made-flush I J (Some r) after ok w step h = rw w (step r h)
 module _ (before after : Option DiskRecord) (count counted : ℕ) (made ok : Bool) where
   -- one write, and one flush: what holds before gives what holds after, whether it was made or not
   pub told-write : (I J : DiskRecord → Type 0) (at : ℕ) (bytes : List ℕ) → MadeOrNot count counted made ok (Writes before after at bytes ok) (after ≡ before)
-      → ((r : DiskRecord) → I r → J r) → ((r : DiskRecord) (held : List ℕ) → Holds bytes ok held → I r → J (with_write r at bytes ok held)) → IfSome before I → IfSome after J
+      → ((r : DiskRecord) → I r → J r) → ((r : DiskRecord) (held : List ℕ) → MayHold bytes ok held → I r → J (with_write r at bytes ok held)) → IfSome before I → IfSome after J
   told-write I J at bytes w same step h = ⊎_elim
       (λ done. made-write I J before after at bytes ok done.done step h)
       (λ kept. subst (λ (o : Option DiskRecord). IfSome o J) (sym kept.same) (told-map I J before same h))
@@ -48,30 +48,30 @@ module _ (before after : Option DiskRecord) (count counted : ℕ) (made ok : Boo
 -- a fact on all images over one more write and one more flush
 module _ (P Q : (ℕ → Cell) → ℕ → List (List ℕ) → Type 0) (from : ℕ) where
   carried-made_write : (before after : Option DiskRecord) (at : ℕ) (bytes : List ℕ) (ok : Bool) → Writes before after at bytes ok → HoldsWithin Q
-      → IfSome before (Always P from) → IfSome before (Gives P Q from) → IfSome after (HoldsNow Q) → IfSome after (Always Q from)
+      → IfSome before (Always P from) → IfSome before (Implies P Q from) → IfSome after (HoldsNow Q) → IfSome after (Always Q from)
   carried-made_write None after at bytes ok w within always gives now = subst (λ (o : Option DiskRecord). IfSome o (Always Q from)) (sym w) tt
   carried-made_write (Some r) after at bytes ok w within always gives now = subst (λ (o : Option DiskRecord). IfSome o (Always Q from)) (sym w.2)
       (Always-write P Q from r _ at bytes ok always gives within (subst (λ (o : Option DiskRecord). IfSome o (HoldsNow Q)) w.2 now))
 
   carried-made_flush : (before after : Option DiskRecord) (ok : Bool) → Flushes before after ok
-      → IfSome before (Always P from) → IfSome before (Gives P Q from) → IfSome after (HoldsNow Q) → IfSome after (Always Q from)
+      → IfSome before (Always P from) → IfSome before (Implies P Q from) → IfSome after (HoldsNow Q) → IfSome after (Always Q from)
   carried-made_flush None after ok w always gives now = subst (λ (o : Option DiskRecord). IfSome o (Always Q from)) (sym w) tt
   carried-made_flush (Some r) after ok w always gives now = subst (λ (o : Option DiskRecord). IfSome o (Always Q from)) (sym w)
       (Always-flush P Q from r _ ok always gives (subst (λ (o : Option DiskRecord). IfSome o (HoldsNow Q)) w now))
 
-  pub told-follows : (told : Option DiskRecord) → IfSome told (Always P from) → IfSome told (Gives P Q from) → IfSome told (Always Q from)
-  told-follows told always gives = told-both (Always P from) (Gives P Q from) (Always Q from) told (λ r h l. Always-map P Q from r l h) always gives
+  pub told-follows : (told : Option DiskRecord) → IfSome told (Always P from) → IfSome told (Implies P Q from) → IfSome told (Always Q from)
+  told-follows told always gives = told-both (Always P from) (Implies P Q from) (Always Q from) told (λ r h l. Always-map P Q from r l h) always gives
 
   module _ (before after : Option DiskRecord) (count counted : ℕ) (made ok : Bool) where
     pub carried-write : (at : ℕ) (bytes : List ℕ) → MadeOrNot count counted made ok (Writes before after at bytes ok) (after ≡ before) → HoldsWithin Q
-        → IfSome before (Always P from) → IfSome before (Gives P Q from) → IfSome after (HoldsNow Q) → IfSome after (Always Q from)
+        → IfSome before (Always P from) → IfSome before (Implies P Q from) → IfSome after (HoldsNow Q) → IfSome after (Always Q from)
     carried-write at bytes w within always gives now = ⊎_elim
         (λ done. carried-made_write before after at bytes ok done.done within always gives now)
         (λ kept. subst (λ (o : Option DiskRecord). IfSome o (Always Q from)) (sym kept.same) (told-follows before always gives))
         w
 
     pub carried-flush : MadeOrNot count counted made ok (Flushes before after ok) (after ≡ before)
-        → IfSome before (Always P from) → IfSome before (Gives P Q from) → IfSome after (HoldsNow Q) → IfSome after (Always Q from)
+        → IfSome before (Always P from) → IfSome before (Implies P Q from) → IfSome after (HoldsNow Q) → IfSome after (Always Q from)
     carried-flush w always gives now = ⊎_elim
         (λ done. carried-made_flush before after ok done.done always gives now)
         (λ kept. subst (λ (o : Option DiskRecord). IfSome o (Always Q from)) (sym kept.same) (told-follows before always gives))

@@ -6,7 +6,7 @@ use Rattle.std.proofs.lemmas.List.Quantifiers.{all_pairs_push}
 use Rattle.std.proofs.lemmas.Bool.{cases_lt}
 use Rattle.std.proofs.lemmas.Bool.Decides.{eqb_tells}
 use Rattle.fx_disk.specs.Record.{DiskRecord, Call, Write, Flush, Cell, call_at, candidates, cell_first, cell_after, cell_at, settled_cell, written_cell, flushed_cell, after_call, within_call}
-use Rattle.fx_disk.specs.Loose.{IsWriteOf, bytes_of, AreWrites}
+use Rattle.fx_disk.specs.Loose.{IsWriteOf, payload, AreWrites}
 use Rattle.fx_disk.proofs.Cells.{by_calls, Contains-one, one-is}
 use Rattle.fx_disk.proofs.Loose.{cell_after-more}
 
@@ -24,7 +24,7 @@ module _ (calls : List Call) (b n : ℕ) where
   }
 
   -- a write of the block
-  one-more : (written : List (List ℕ)) (bytes : List ℕ) → IsWriteOf b (call_at calls n) → bytes_of (call_at calls n) ≡ bytes → AreWrites calls b n written → AreWrites calls b (n + 1) (written ++ bytes ∷ [])
+  one-more : (written : List (List ℕ)) (bytes : List ℕ) → IsWriteOf b (call_at calls n) → payload (call_at calls n) ≡ bytes → AreWrites calls b n written → AreWrites calls b (n + 1) (written ++ bytes ∷ [])
   one-more written bytes writes is h = record {
     places = h.places ++ n ∷ [];
     in_order = all_pairs_push (λ j k. j < k) h.places n h.in_order (λ k d lt. ((h.exact (get_or h.places k d)).0 (Contains-get_or h.places k d lt)).0);
@@ -39,8 +39,8 @@ module _ (calls : List Call) (b n : ℕ) where
           (cases_lt k n)),
     );
     bytes = ap (λ (ws : List (List ℕ)). ws ++ bytes ∷ []) h.bytes
-        ∙ ap (λ (x : List ℕ). map (λ (k : ℕ). bytes_of (call_at calls k)) h.places ++ x ∷ []) (sym is)
-        ∙ sym (map-append (λ (k : ℕ). bytes_of (call_at calls k)) h.places (n ∷ []));
+        ∙ ap (λ (x : List ℕ). map (λ (k : ℕ). payload (call_at calls k)) h.places ++ x ∷ []) (sym is)
+        ∙ sym (map-append (λ (k : ℕ). payload (call_at calls k)) h.places (n ∷ []));
   }
 
   flushed-written : (ok : Bool) (cell : Cell) → (flushed_cell ok cell).written ≡ cell.written
@@ -49,7 +49,7 @@ module _ (calls : List Call) (b n : ℕ) where
   writes-step : (call : Call) (cell : Cell) → call_at calls n ≡ call → AreWrites calls b n cell.written → AreWrites calls b (n + 1) (after_call b call cell).written
   writes-step (Write at bytes ok) cell is h = ⊎_elim
       (λ y. subst (λ (t : Bool). AreWrites calls b (n + 1) (if t then written_cell bytes ok cell else cell).written) (sym y.0)
-      (one-more cell.written bytes (subst (λ (c : Call). IsWriteOf b c) (sym is) y.1) (ap bytes_of is) h))
+      (one-more cell.written bytes (subst (λ (c : Call). IsWriteOf b c) (sym is) y.1) (ap payload is) h))
       (λ other. subst (λ (t : Bool). AreWrites calls b (n + 1) (if t then written_cell bytes ok cell else cell).written) (sym other.0)
       (same-writes cell.written (λ w. other.1 (subst (λ (c : Call). IsWriteOf b c) is w)) h))
       (eqb_tells at b)

@@ -15,9 +15,9 @@ abbrev pub HasFailed : Call → Type 0
 HasFailed (Write at bytes ok) = ok ≡ false
 HasFailed (Flush ok) = ok ≡ false
 
-abbrev pub bytes_of : Call → List ℕ
-bytes_of (Write at bytes ok) = bytes
-bytes_of (Flush ok) = []
+abbrev pub payload : Call → List ℕ
+payload (Write at bytes ok) = bytes
+payload (Flush ok) = []
 
 -- Of the first `m` calls, `f` are those up to the last successful flush. The entry image counts as
 -- flushed: where no flush was successful, `f` is 0.
@@ -40,8 +40,8 @@ IsWrittenFrom calls b f n = (k : ℕ) × (f ≤ k) × (k < n) × IsWriteOf b (ca
 abbrev pub LastFailed : List Call → ℕ → ℕ → Type 0
 LastFailed calls b n = (k : ℕ) × IsLastWrite calls b n k × HasFailed (call_at calls k)
 
--- A write of the block stands after the last successful flush of the first `m` calls, among the first
--- `n`, or its last write before that flush failed.
+-- A write of the block stands after the last successful flush of the first `m` calls, among the
+-- first `n`, or its last write before that flush failed.
 pub record IsLoose (calls : List Call) (b m n : ℕ) : Type 0 where
   pub flushes : ℕ
   pub last : IsLastFlush calls m flushes
@@ -51,10 +51,11 @@ pub record IsLoose (calls : List Call) (b m n : ℕ) : Type 0 where
 abbrev pub IsLooseAt : List Call → ℕ → ℕ → Type 0
 IsLooseAt calls b m = IsLoose calls b m (m + 1)
 
--- The bytes of the block's last write among the first `n` calls, or those at entry where there was none.
+-- The bytes of the block's last write among the first `n` calls, or those at entry where there was
+-- none.
 abbrev pub IsLastBytes : DiskRecord → ℕ → ℕ → List ℕ → Type 0
 IsLastBytes r b n bytes =
-    ((k : ℕ) × IsLastWrite r.calls b n k × (bytes ≡ bytes_of (call_at r.calls k)))
+    ((k : ℕ) × IsLastWrite r.calls b n k × (bytes ≡ payload (call_at r.calls k)))
     ⊎ (((k : ℕ) → k < n → IsWriteOf b (call_at r.calls k) → ⊥) ×
     (bytes ≡ slice_index_or r.entry b []))
 
@@ -63,10 +64,10 @@ pub record AreWrites (calls : List Call) (b n : ℕ) (written : List (List ℕ))
   pub places : List ℕ
   pub in_order : AllPairs (λ j k. j < k) places
   pub exact : (k : ℕ) → Contains places k ↔ ((k < n) × IsWriteOf b (call_at calls k))
-  pub bytes : written ≡ map (λ k. bytes_of (call_at calls k)) places
+  pub bytes : written ≡ map (λ k. payload (call_at calls k)) places
 
--- An image that a stop at moment `m` may leave: in each block that is not loose the bytes of its last
--- write, and any bytes in a loose one.
+-- An image that a stop at moment `m` may leave: in each block that is not loose the bytes of its
+-- last write, and any bytes in a loose one.
 pub record IsLeft (r : DiskRecord) (m : ℕ) (image : List (List ℕ)) : Type 0 where
   pub size : length image ≡ length r.entry
   pub blocks : (b : ℕ) → b < length r.entry → IsBlock (slice_index_or image b [])

@@ -1,5 +1,6 @@
 -- A disk as the list of its calls, and what a stop at some moment may leave in its blocks.
 use Rattle.std.specs.Prelude.{◌≡◌, ℕ, ◌<◌, Bool, true, false, not, ◌&&◌, ◌==◌, if◌then◌else◌, List, [], ◌∷◌, ◌++◌, length, take, slice_index_or}
+use Rattle.fx_base.specs.declared.block.TheConstants.{BLOCK_BYTES}
 
 -- A write or a flush that was made, and whether it answered Ok.
 pub data Call : Type 0 where
@@ -13,12 +14,12 @@ pub record DiskRecord : Type 0 where
   pub contents : List (List ℕ)
 
 pub record IsBlock (bytes : List ℕ) : Type 0 where
-  pub long : length bytes ≡ 4096
-  pub each : (i : ℕ) → i < 4096 → slice_index_or bytes i 0 < 256
+  pub long : length bytes ≡ BLOCK_BYTES
+  pub each : (i : ℕ) → i < BLOCK_BYTES → slice_index_or bytes i 0 < 256
 
--- One block at a moment: its bytes at entry, the bytes of its last write, whether that write failed,
--- whether the block is loose, the last bytes that it held while it was not loose, the bytes of every
--- write to it since then, and those of every write to it since entry.
+-- One block at a moment: its bytes at entry, the bytes of its last write, whether that write
+-- failed, whether the block is loose, the last bytes that it held while it was not loose, the bytes
+-- of every write to it since then, and those of every write to it since entry.
 pub record Cell : Type 0 where
   pub entry : List ℕ
   pub bytes : List ℕ

@@ -15,8 +15,8 @@ HasNoFailed r = (b : ℕ) → b < length r.entry → (cell_now r b).failed ≡ f
 abbrev pub WasSettled : ℕ → DiskRecord → Type 0
 WasSettled start r = (b : ℕ) → b < length r.entry → (cell_after r start b).loose ≡ false
 
--- The disk reads as `base` but for the block `at`, no other block is loose, and what a stop that tears
--- no block may leave in it is one of `values`.
+-- The disk reads as `base` but for the block `at`, no other block is loose, and what a stop that
+-- tears no block may leave in it is one of `values`.
 pub record IsChangedAt (base : List (List ℕ)) (at : ℕ) (values : List (List ℕ))
     (r : DiskRecord) : Type 0 where
   pub reads : r.contents ≡ slice_set base at (slice_index_or r.contents at [])

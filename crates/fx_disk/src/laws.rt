@@ -5,20 +5,21 @@ ghost use Rattle.std.specs.Option.{IfSome};
 ghost use Rattle.fx_disk.specs.Record.{Call, Write, Flush, DiskRecord, Cell, Left, LeftNow};
 ghost use Rattle.fx_disk.specs.Record.{candidates, settled_cell, written_cell, cell_at, cell_now};
 ghost use Rattle.fx_disk.specs.Loose.{IsLooseAt, IsLeft, AreWrites};
-ghost use Rattle.fx_disk.specs.Steps.{Holds, IsRecordOf, with_call, with_write, with_flush};
+ghost use Rattle.fx_disk.specs.Steps.{MayHold, IsRecordOf, with_call, with_write, with_flush};
 ghost use Rattle.fx_disk.specs.Seen.{DiskSeen, HasWritten, HasFlushed};
-ghost use Rattle.fx_disk.specs.Always.{Always, HoldsNow, Gives, HoldsWithin};
+ghost use Rattle.fx_disk.specs.Always.{Always, HoldsNow, Implies, HoldsWithin};
 ghost use Rattle.fx_disk.specs.Settled.{IsSettled, HasNoFailed, WasSettled, IsChangedAt, IsGoodWrite};
 
-/// The fold over a block's calls finds it loose exactly where it was written after the last successful
-/// flush, or where its last write before that flush failed.
+/// The fold over a block's calls finds it loose exactly where it was written after the last
+/// successful flush, or where its last write before that flush failed.
 pub fn loose_blocks()
     ensures { (r : DiskRecord) (b m : ℕ) → m ≤ length r.calls →
         ((cell_at r m b).loose ≡ true) ↔ IsLooseAt r.calls b m }
 {}
 
-/// The fold keeps of each block its bytes at entry and the bytes of every write of it, in the order of
-/// the calls; a flush drops none. A candidate is one of these, and so are the bytes of the last write.
+/// The fold keeps of each block its bytes at entry and the bytes of every write of it, in the order
+/// of the calls; a flush drops none. A candidate is one of these, and so are the bytes of the last
+/// write.
 pub fn written_blocks()
     ensures writes { (r : DiskRecord) (b m : ℕ) → m ≤ length r.calls →
         AreWrites r.calls b (m + 1) (cell_at r m b).written }
@@ -38,8 +39,8 @@ pub fn images_left()
         Left r m image ↔ IsLeft r m image }
 {}
 
-/// A further call changes nothing at the moments before it. Within a write is left what is left after
-/// it, and within a flush what was left before it.
+/// A further call changes nothing at the moments before it. Within a write is left what is left
+/// after it, and within a flush what was left before it.
 pub fn further_calls()
     ensures earlier { (r : DiskRecord) (call : Call) (contents image : List (List ℕ)) (m : ℕ) →
         m < length r.calls → Left (with_call r call contents) m image ↔ Left r m image }
@@ -54,8 +55,8 @@ pub fn further_calls()
         ↔ LeftNow (with_call r call contents) image }
 {}
 
-/// A successful flush settles each block whose last write was good, and a failed one settles nothing.
-/// A block whose last write failed stays as it was.
+/// A successful flush settles each block whose last write was good, and a failed one settles
+/// nothing. A block whose last write failed stays as it was.
 pub fn flushed_blocks()
     ensures good { (r : DiskRecord) (b : ℕ) (contents : List (List ℕ)) →
         (cell_now r b).failed ≡ false →
@@ -105,12 +106,12 @@ pub trait ImageFact {
     ghost holds: { (ℕ → Cell) → ℕ → List (List ℕ) → Type 0 };
 }
 
-/// A fact about the record is carried over one more write or flush to the same or another fact, whether
-/// the call was made or not, failed or not, and whether the disk tells its record or not.
+/// A fact about the record is carried over one more write or flush to the same or another fact,
+/// whether the call was made or not, failed or not, and whether the disk tells its record or not.
 pub fn told_after_call<I: RecordFact, J: RecordFact>()
     ensures write { (before after : DiskSeen) (at : ℕ) (bytes : List ℕ) (ok : Bool) →
         HasWritten before after at bytes ok → ((r : DiskRecord) → I.holds r → J.holds r) →
-        ((r : DiskRecord) (held : List ℕ) → Holds bytes ok held → I.holds r →
+        ((r : DiskRecord) (held : List ℕ) → MayHold bytes ok held → I.holds r →
         J.holds (with_write r at bytes ok held)) →
         IfSome before.told I.holds → IfSome after.told J.holds }
     ensures flush { (before after : DiskSeen) (ok : Bool) → HasFlushed before after ok →
@@ -119,23 +120,25 @@ pub fn told_after_call<I: RecordFact, J: RecordFact>()
         IfSome before.told I.holds → IfSome after.told J.holds }
 {}
 
-/// What held of every image that was left at every moment since `from` is carried over one more write or
-/// flush to the same or another fact: to one that follows from it at the moments before, and holds of
-/// the images left after the call. Within a write may be left what is left after it, so there the fact
-/// is to hold at a moment where it holds at the next. It does not matter whether the call was made or
-/// not, failed or not, and whether the disk tells its record or not.
+/// What held of every image that was left at every moment since `from` is carried over one more
+/// write or flush to the same or another fact: to one that follows from it at the moments before,
+/// and holds of the images left after the call. Within a write may be left what is left after it,
+/// so there the fact is to hold at a moment where it holds at the next. It does not matter whether
+/// the call was made or not, failed or not, and whether the disk tells its record or not.
 pub fn always_after_call<P: ImageFact, Q: ImageFact>()
     ensures write { (from : ℕ) (before after : DiskSeen) (at : ℕ) (bytes : List ℕ) (ok : Bool) →
         HasWritten before after at bytes ok → HoldsWithin Q.holds →
-        IfSome before.told (Always P.holds from) → IfSome before.told (Gives P.holds Q.holds from) →
+        IfSome before.told (Always P.holds from) →
+        IfSome before.told (Implies P.holds Q.holds from) →
         IfSome after.told (HoldsNow Q.holds) → IfSome after.told (Always Q.holds from) }
     ensures flush { (from : ℕ) (before after : DiskSeen) (ok : Bool) → HasFlushed before after ok →
-        IfSome before.told (Always P.holds from) → IfSome before.told (Gives P.holds Q.holds from) →
+        IfSome before.told (Always P.holds from) →
+        IfSome before.told (Implies P.holds Q.holds from) →
         IfSome after.told (HoldsNow Q.holds) → IfSome after.told (Always Q.holds from) }
 {}
 
-/// What holds of the images left now holds from now on, what holds at every moment holds now, and what
-/// follows from it at each moment holds at every moment.
+/// What holds of the images left now holds from now on, what holds at every moment holds now, and
+/// what follows from it at each moment holds at every moment.
 pub fn always_now<P: ImageFact, Q: ImageFact>()
     ensures begin { (told : Option DiskRecord) (size calls : ℕ) →
         IfSome told (IsRecordOf size calls) →
@@ -143,12 +146,12 @@ pub fn always_now<P: ImageFact, Q: ImageFact>()
     ensures now { (told : Option DiskRecord) (from : ℕ) → IfSome told (Always P.holds from) →
         IfSome told (HoldsNow P.holds) }
     ensures follows { (from : ℕ) (told : Option DiskRecord) → IfSome told (Always P.holds from) →
-        IfSome told (Gives P.holds Q.holds from) → IfSome told (Always Q.holds from) }
+        IfSome told (Implies P.holds Q.holds from) → IfSome told (Always Q.holds from) }
 {}
 
-/// From where nothing is loose a write of one block, and a flush or more, leave every other block as it
-/// was, also where they fail or are not made. A good write and then a good flush leave nothing loose,
-/// and the image left is what was there with the block written.
+/// From where nothing is loose a write of one block, and a flush or more, leave every other block
+/// as it was, also where they fail or are not made. A good write and then a good flush leave
+/// nothing loose, and the image left is what was there with the block written.
 pub fn changed_block()
     ensures begin { (told : Option DiskRecord) (size calls at : ℕ) (base : List (List ℕ)) →
         at < size → IfSome told (IsRecordOf size calls) → IfSome told IsSettled →
@@ -189,8 +192,8 @@ pub fn changed_block()
 {}
 
 /// What was settled after the first `start` calls is known from these calls alone: no later call
-/// changes it. A flush makes no block loose, and where no block's last write failed a successful one
-/// leaves none loose.
+/// changes it. A flush makes no block loose, and where no block's last write failed a successful
+/// one leaves none loose.
 pub fn settled_moments()
     ensures later { (r : DiskRecord) (call : Call) (contents : List (List ℕ)) (start : ℕ) →
         start ≤ length r.calls → WasSettled start r ↔ WasSettled start (with_call r call contents) }

@@ -1,10 +1,11 @@
 //! A disk of blocks of 4,096 bytes, and what a stop of it may leave.
 //!
-//! A disk is stated by what is seen of it (`specs/Seen.antt`): its size, its counts, and its record,
-//! the image at entry and the list of the writes and flushes made since (`specs/Record.antt`). What
-//! it does not tell of its record it need not keep, so a file meets the trait as well as a disk in
-//! memory does. A caller says what it does to a disk by one frame over `seen` (`GoesOn`,
-//! `HasOnlyRead`, `HasCalled`), and closes sequences and loops by the lemmas of `proofs/Frames.antt`.
+//! A disk is stated by what is seen of it (`specs/Seen.antt`): its size, its counts, and its
+//! record, the image at entry and the list of the writes and flushes made since
+//! (`specs/Record.antt`). What it does not tell of its record it need not keep, so a file meets the
+//! trait as well as a disk in memory does. A caller says what it does to a disk by one frame over
+//! `seen` (`GoesOn`, `HasOnlyRead`, `HasCalled`), and closes sequences and loops by the lemmas of
+//! `proofs/Frames.antt`.
 #![tactic(auto)]
 
 ghost use Rattle.std.specs.Prelude.{◌≡◌, ◌<◌, OnOk, is_ok, [], slice_index_or};
@@ -54,8 +55,8 @@ pub trait Disk {
             (IfSome (seen self.old).told (λ r. into.new ≡ slice_index_or r.contents at [])) }
         ensures read { HasRead (seen self.old) (seen self.new) (is_ok result) };
 
-    /// Writes a block. A write that fails may have been made, and then leaves any bytes in its block
-    /// until a later write and flush.
+    /// Writes a block. A write that fails may have been made, and then leaves any bytes in its
+    /// block until a later write and flush.
     fn write(&mut self, at: u32, from: &[u8; BLOCK_BYTES]) -> Result<(), DiskFailed>
         requires { at < (seen self.old).size }
         ensures written { HasWritten (seen self.old) (seen self.new) at from.now (is_ok result) };

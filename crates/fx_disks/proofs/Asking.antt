@@ -4,7 +4,7 @@ use Rattle.std.proofs.lemmas.List.{length-append, length-set}
 use Rattle.std.proofs.lemmas.Bool.{cases_lt}
 use Rattle.fx_base.specs.Causes.{risen, CountsFault}
 use Rattle.fx_disk.specs.Record.{Call, Write, Flush, DiskRecord, IsBlock}
-use Rattle.fx_disk.specs.Steps.{Holds, Writes, Flushes, MadeOrNot, IsMade, IsNotMade, with_write, with_flush, IsRecordOf}
+use Rattle.fx_disk.specs.Steps.{MayHold, Writes, Flushes, MadeOrNot, WasMade, WasNotMade, with_write, with_flush, IsRecordOf}
 use Rattle.fx_disk.specs.Seen.{HasRead, HasWritten, HasFlushed}
 use Rattle.fx_disks.specs.Calls.{record_from}
 use Rattle.fx_disks.specs.State.{MemoryState, seen_in, IsAfterRead, Asks, IsAtLimit, IsStarved, IsDone, refused_state, starved_state, made_state, written_record}
@@ -36,7 +36,7 @@ pub flushed-to : (entry : List (List ℕ)) (xs ys : List Call) (ok : Bool) → y
 flushed-to entry xs ys ok e = ap (record_from entry) e ∙ record-flush entry xs ok
 
 -- what the disk tells
-made-of : (s t : MemoryState) (ok : Bool) (disk : DiskRecord) (call : Call) (does : Type 0) → length disk.calls ≡ length s.disk.calls + 1 → IsDone s t ok disk → (t.disk ≡ disk → does) → IsMade (length s.disk.calls) (length t.disk.calls) t.last_made does
+made-of : (s t : MemoryState) (ok : Bool) (disk : DiskRecord) (call : Call) (does : Type 0) → length disk.calls ≡ length s.disk.calls + 1 → IsDone s t ok disk → (t.disk ≡ disk → does) → WasMade (length s.disk.calls) (length t.disk.calls) t.last_made does
 made-of s t ok disk call does count h then' = record {
   within = h.room;
   counted = ap (λ (x : MemoryState). length x.disk.calls) h.state ∙ count;

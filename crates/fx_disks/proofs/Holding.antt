@@ -6,7 +6,7 @@ use Rattle.std.proofs.Math.Seq.{get_or-append_seam, get_or-append_right}
 use Rattle.std.proofs.lemmas.Bool.{cases_lt}
 use Rattle.std.proofs.lemmas.Bool.Decides.{eqb_tells}
 use Rattle.fx_disk.specs.Record.{Call, Write, Flush, DiskRecord, IsBlock, call_at}
-use Rattle.fx_disk.specs.Steps.{Holds, with_write, with_flush, IsRecordOf}
+use Rattle.fx_disk.specs.Steps.{MayHold, with_write, with_flush, IsRecordOf}
 use Rattle.fx_disk.proofs.Records.{IsRecordOf-fresh, IsRecordOf-write, IsRecordOf-flush, by_block}
 use Rattle.fx_disks.specs.Blocks.{AreBlocks}
 use Rattle.fx_base.specs.Blocks.{zero_bytes}
@@ -48,7 +48,7 @@ pub record-flush : (entry : List (List ℕ)) (calls : List Call) (ok : Bool) →
 record-flush entry calls ok = ap (λ (now : List (List ℕ)). record { entry = entry; calls = calls ++ Flush ok ∷ []; contents = now }) (contents_after-append entry calls (Flush ok ∷ []))
 
 -- what a written block holds
-pub holds-written : (size calls : ℕ) (r : DiskRecord) (at : ℕ) (bytes : List ℕ) (ok : Bool) → IsRecordOf size calls r → at < size → IsBlock bytes → Holds bytes ok (if ok then bytes else get_or r.contents at [])
+pub holds-written : (size calls : ℕ) (r : DiskRecord) (at : ℕ) (bytes : List ℕ) (ok : Bool) → IsRecordOf size calls r → at < size → IsBlock bytes → MayHold bytes ok (if ok then bytes else get_or r.contents at [])
 holds-written size calls r at bytes true h lt block = record { block = block; good = λ _. refl }
 holds-written size calls r at bytes false h lt block = record { block = h.blocks at lt; good = λ e. absurd (cc) }
 

@@ -8,7 +8,7 @@ use Rattle.std.proofs.Math.Seq.{get_or-append_right}
 use Rattle.std.proofs.lemmas.Bool.{cases_lt, cases_Bool}
 use Rattle.std.proofs.lemmas.Bool.Decides.{eqb_tells}
 use Rattle.fx_disk.specs.Record.{Call, Write, Flush, DiskRecord, Cell, IsBlock, Left, call_at, cell_at}
-use Rattle.fx_disk.specs.Loose.{IsWriteOf, bytes_of}
+use Rattle.fx_disk.specs.Loose.{IsWriteOf, payload}
 use Rattle.fx_disk.specs.Steps.{IsRecordOf, IsCallOf}
 use Rattle.fx_base.specs.Blocks.{zero_bytes}
 use Rattle.fx_disks.specs.Calls.{bytes_by, bytes_or, record_from}
@@ -39,17 +39,17 @@ pick_of-picked r m b loose (p ∷ picks) all e = ⊎_elim
     (λ n. pick_of-picked r m b loose picks (All-tail (IsPick r m) p picks all) (subst (λ (t : Bool). (if t then Some p.loose else pick_of picks b) ≡ Some loose) n.0 e))
     (eqb_tells p.block b)
 
-write-bytes : (b : ℕ) (call : Call) (other : List ℕ) → IsWriteOf b call → bytes_or call other ≡ bytes_of call
+write-bytes : (b : ℕ) (call : Call) (other : List ℕ) → IsWriteOf b call → bytes_or call other ≡ payload call
 write-bytes b (Write at bytes ok) other w = refl
 write-bytes b (Flush ok) other w = absurd w
 
-wrote-bytes : (r : DiskRecord) (m b number : ℕ) → Wrote r.calls m b number → bytes_by r.entry r.calls b number ≡ bytes_of (call_at r.calls (number - 1))
+wrote-bytes : (r : DiskRecord) (m b number : ℕ) → Wrote r.calls m b number → bytes_by r.entry r.calls b number ≡ payload (call_at r.calls (number - 1))
 wrote-bytes r m b number h = bytes_by-number r.entry r.calls b number h.counted ∙ write-bytes b (call_at r.calls (number - 1)) (get_or r.entry b []) h.write
 
 choice-left : (r : DiskRecord) (m b s : ℕ) (loose : Loose) → (cell_at r m b).settled ≡ bytes_by r.entry r.calls b s → CanBeLeft r.calls m b loose → bytes_of_choice r.entry r.calls b s (Some loose) ≡ left_bytes r m b loose
 choice-left r m b s Settled e h = sym e
 choice-left r m b s (Written number) e h = wrote-bytes r m b number h
-choice-left r m b s (Half number) e h = ap (λ (xs : List ℕ). take 2048 xs ++ drop 2048 (bytes_by r.entry r.calls b s)) (wrote-bytes r m b number h) ∙ ap (λ (xs : List ℕ). take 2048 (bytes_of (call_at r.calls (number - 1))) ++ drop 2048 xs) (sym e)
+choice-left r m b s (Half number) e h = ap (λ (xs : List ℕ). take 2048 xs ++ drop 2048 (bytes_by r.entry r.calls b s)) (wrote-bytes r m b number h) ∙ ap (λ (xs : List ℕ). take 2048 (payload (call_at r.calls (number - 1))) ++ drop 2048 xs) (sym e)
 choice-left r m b s Zeros e h = refl
 
 choice-chosen : (r : DiskRecord) (m b s : ℕ) (choice : Option Loose) → (cell_at r m b).settled ≡ bytes_by r.entry r.calls b s → ((loose : Loose) → choice ≡ Some loose → Picked r m b loose)

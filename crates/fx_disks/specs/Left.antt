@@ -6,6 +6,7 @@ use Rattle.fx_disks.specs.Tracks.{settled_number, fresh}
 use Rattle.fx_disks.specs.Picks.{IsPick, ArePicks, pick_of}
 use Rattle.fx_disks.specs.declared.track.Track.{Track}
 use Rattle.fx_base.specs.Blocks.{zero_bytes}
+use Rattle.fx_disks.specs.declared.pick.TheConstants.{HALF_BYTES}
 use Rattle.fx_disks.specs.declared.pick.Pick.{Pick}
 use Rattle.fx_disks.specs.declared.pick.Loose.{Loose}
 use Rattle.fx_disks.specs.declared.pick.Loose.TheVariants.{Settled, Written, Half, Zeros}
@@ -16,11 +17,12 @@ bytes_of_choice entry calls b settled None = bytes_by entry calls b settled
 bytes_of_choice entry calls b settled (Some Settled) = bytes_by entry calls b settled
 bytes_of_choice entry calls b settled (Some (Written number)) = bytes_by entry calls b number
 bytes_of_choice entry calls b settled (Some (Half number)) =
-    take 2048 (bytes_by entry calls b number) ++ drop 2048 (bytes_by entry calls b settled)
+    take HALF_BYTES (bytes_by entry calls b number)
+    ++ drop HALF_BYTES (bytes_by entry calls b settled)
 bytes_of_choice entry calls b settled (Some Zeros) = zero_bytes
 
--- Whether the pick, after those that made the choices `old`, is one more: then it is the choice of its
--- block.
+-- Whether the pick, after those that made the choices `old`, is one more: then it is the choice of
+-- its block.
 pub record Chooses (calls : List Call) (m : ℕ) (old new : List (Option Loose)) (pick : Pick)
     (answer : Bool) : Type 0 where
   pub free : answer ≡ true → slice_index_or old pick.block None ≡ None

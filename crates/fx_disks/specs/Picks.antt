@@ -2,8 +2,9 @@
 use Rattle.std.specs.Prelude.{◌≡◌, ◌≢◌, ℕ, ◌+◌, ◌-◌, ◌≤◌, ◌<◌, true, ◌==◌, if◌then◌else◌, Option, Some, None, List, [], ◌∷◌, ◌++◌, length, take, drop, replicate, slice_index_or}
 use Rattle.std.specs.List.{All, AllPairs}
 use Rattle.fx_disk.specs.Record.{DiskRecord, Call, call_at, cell_at}
-use Rattle.fx_disk.specs.Loose.{IsWriteOf, bytes_of}
+use Rattle.fx_disk.specs.Loose.{IsWriteOf, payload}
 use Rattle.fx_base.specs.Blocks.{zero_bytes}
+use Rattle.fx_disks.specs.declared.pick.TheConstants.{HALF_BYTES}
 use Rattle.fx_disks.specs.declared.pick.Pick.{Pick}
 use Rattle.fx_disks.specs.declared.pick.Loose.{Loose}
 use Rattle.fx_disks.specs.declared.pick.Loose.TheVariants.{Settled, Written, Half, Zeros}
@@ -24,9 +25,10 @@ CanBeLeft calls m b Zeros = Unit {0}
 -- The bytes that are left.
 abbrev pub left_bytes : DiskRecord → ℕ → ℕ → Loose → List ℕ
 left_bytes r m b Settled = (cell_at r m b).settled
-left_bytes r m b (Written number) = bytes_of (call_at r.calls (number - 1))
+left_bytes r m b (Written number) = payload (call_at r.calls (number - 1))
 left_bytes r m b (Half number) =
-    take 2048 (bytes_of (call_at r.calls (number - 1))) ++ drop 2048 (cell_at r m b).settled
+    take HALF_BYTES (payload (call_at r.calls (number - 1)))
+    ++ drop HALF_BYTES (cell_at r m b).settled
 left_bytes r m b Zeros = zero_bytes
 
 -- A pick of a loose block.

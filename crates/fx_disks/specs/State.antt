@@ -79,8 +79,8 @@ pub record IsDone (s t : MemoryState) (ok : Bool) (disk : DiskRecord) : Type 0 w
 abbrev pub Asks : MemoryState → MemoryState → Bool → DiskRecord → Type 0
 Asks s t ok disk = IsAtLimit s t ok ⊎ (IsStarved s t ok ⊎ IsDone s t ok disk)
 
--- The state after a read: below 2^63 reads it is made, and fails exactly where its number, from 1, is to
--- fail.
+-- The state after a read: below 2^63 reads it is made, and fails exactly where its number, from 1,
+-- is to fail.
 pub record IsAfterRead (s t : MemoryState) (ok : Bool) : Type 0 where
   pub failed : ok ≡ false ↔ ((2 ^ 63 ≤ s.reads) ⊎ Contains s.fail_reads (s.reads + 1))
   pub state : t ≡ record s {

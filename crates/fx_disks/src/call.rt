@@ -2,11 +2,13 @@
 ghost use Rattle.std.specs.Prelude.{◌≡◌, ◌↔◌, IsTrue};
 ghost use Rattle.fx_disk.specs.Loose.{IsWriteOf};
 
+use fx_base::BLOCK_BYTES;
+
 #[derive(Drop)]
 pub enum Made {
     Write {
         at: u32,
-        bytes: Box<[u8; 4096]>,
+        bytes: Box<[u8; BLOCK_BYTES]>,
         ok: bool,
     },
     Flush {
@@ -33,7 +35,7 @@ impl Made {
     }
 
     /// The bytes of a write, or the other ones for a flush.
-    pub fn bytes_or<'a>(&'a self, other: &'a [u8; 4096]) -> &'a [u8; 4096]
+    pub fn bytes_or<'a>(&'a self, other: &'a [u8; BLOCK_BYTES]) -> &'a [u8; BLOCK_BYTES]
         ensures { result.now ≡ bytes_or (call_of self.now) other.now }
     {
         match self {

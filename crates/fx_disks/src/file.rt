@@ -12,10 +12,10 @@ use std::rt::Files;
 
 /// A disk over a file or a device, whose bytes it does not tell.
 ///
-/// A block stands at 4,096 times its number. A flush is the data sync of the file, and ends when the
-/// system says that the device has the bytes. After a flush that failed no write and no flush is made
-/// any more: the system may forget what it could not write once it has said so, and a later flush
-/// that succeeds would not speak of it. Reads go on.
+/// A block stands at 4,096 times its number. A flush is the data sync of the file, and ends when
+/// the system says that the device has the bytes. After a flush that failed no write and no flush
+/// is made any more: the system may forget what it could not write once it has said so, and a later
+/// flush that succeeds would not speak of it. Reads go on.
 ///
 /// As long as the disk lasts it holds an advisory lock on the file, which every other disk over it
 /// respects, in this program and in others.
@@ -35,8 +35,8 @@ pub struct FileDisk {
     ghost few_blocks: { blocks < 2 ^ 32 },
 }
 
-/// Opens a file, takes its lock or fails, has its data on the device, and tells its size. A device is
-/// as large as where it ends.
+/// Opens a file, takes its lock or fails, has its data on the device, and tells its size. A device
+/// is as large as where it ends.
 fn open<R: Files<File = File>>(rt: &R, path: &str, writable: bool) -> io::Result<(File, u64)> {
     let mut file = OpenOptions::new()
         .read(true)
@@ -55,8 +55,8 @@ fn open<R: Files<File = File>>(rt: &R, path: &str, writable: bool) -> io::Result
 impl FileDisk {
     ghost use Rattle.fx_disks.specs.File.{IsUnused};
 
-    /// Opens the file for reading and writing. The disk has its size divided by 4,096 blocks, at most
-    /// `u32::MAX`; what is left of the file is not touched.
+    /// Opens the file for reading and writing. The disk has its size divided by 4,096 blocks, at
+    /// most `u32::MAX`; what is left of the file is not touched.
     ///
     /// The disk alone holds the file until it is dropped, and what is read of it is what the device
     /// holds: its data is synced once, which counts as no call. It fails where the file does not
@@ -70,8 +70,8 @@ impl FileDisk {
         Ok(FileDisk::over(file, size, true))
     }
 
-    /// The same for reading alone: its writes and flushes are not made, and fail. Any number of such
-    /// disks hold the file at a time, while none that writes does.
+    /// The same for reading alone: its writes and flushes are not made, and fail. Any number of
+    /// such disks hold the file at a time, while none that writes does.
     pub fn to_read<R: Files<File = File>>(rt: &R, path: &str) -> Result<FileDisk, DiskFailed>
         ensures fresh { IfOk result (IsUnused false) }
     {
@@ -160,8 +160,8 @@ impl Disk for FileDisk {
     fn flush(&mut self) -> Result<(), DiskFailed>
         ensures flushed { HasFlushed (seen_of self.old) (seen_of self.new) (is_ok result) }
         ensures refused { self.old.writable ≡ false → IsHeldBack self.old self.new (is_ok result) }
-        // A flush that failed shuts the disk, and no call opens it again: each write and flush from then
-        // on is refused.
+        // A flush that failed shuts the disk, and no call opens it again: each write and flush from
+        // then on is refused.
         ensures shut { OnErr result (self.new.writable ≡ false) }
         ensures stays { OnOk result (self.new.writable ≡ self.old.writable) }
     {

@@ -3,12 +3,13 @@ ghost use Rattle.std.specs.Prelude.{◌≡◌, ◌<◌, ℕ, length, slice_index
 ghost use Rattle.fx_disk.specs.Record.{IsBlock};
 ghost use Rattle.fx_disks.specs.Blocks.{AreBlocks};
 
+use fx_base::BLOCK_BYTES;
 use std::marker::Model;
 
 /// The blocks of a disk, in order.
 #[derive(Drop)]
 pub struct Image {
-    blocks: Vec<[u8; 4096]>,
+    blocks: Vec<[u8; BLOCK_BYTES]>,
 }
 
 impl Model for Image {
@@ -29,13 +30,13 @@ fn are_bytes(bytes: &[u8])
     let _len = bytes.len();
 }
 
-fn is_block(block: &[u8; 4096])
+fn is_block(block: &[u8; BLOCK_BYTES])
     ensures { IsBlock block.now }
 {
     are_bytes(&block[..]);
 }
 
-fn are_blocks(blocks: &[[u8; 4096]])
+fn are_blocks(blocks: &[[u8; BLOCK_BYTES]])
     ensures { AreBlocks blocks.now }
 {
     for block in blocks {
@@ -45,7 +46,7 @@ fn are_blocks(blocks: &[[u8; 4096]])
 
 impl Image {
     /// Takes the blocks over, and no memory.
-    pub fn from_blocks(blocks: Vec<[u8; 4096]>) -> Image
+    pub fn from_blocks(blocks: Vec<[u8; BLOCK_BYTES]>) -> Image
         ensures { result ≡ blocks.items }
     {
         are_blocks(&blocks);
@@ -53,7 +54,7 @@ impl Image {
     }
 
     /// The blocks, in order.
-    pub fn blocks(&self) -> &[[u8; 4096]]
+    pub fn blocks(&self) -> &[[u8; BLOCK_BYTES]]
         ensures value { result.now ≡ self.now }
         ensures blocks { AreBlocks self.now }
     {
@@ -61,7 +62,7 @@ impl Image {
     }
 
     /// Gives the blocks back, and takes no memory.
-    pub fn into_blocks(self) -> Vec<[u8; 4096]>
+    pub fn into_blocks(self) -> Vec<[u8; BLOCK_BYTES]>
         ensures value { result.items ≡ self }
         ensures blocks { AreBlocks self }
     {

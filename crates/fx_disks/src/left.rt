@@ -10,19 +10,19 @@ ghost use Rattle.fx_disks.specs.Picks.{CanBeLeft, Wrote, ArePicks, IsImageOf};
 ghost use Rattle.fx_disks.specs.Left.{bytes_of_choice, Chooses, AreChosen, AreNoPicks, HoldsChoices};
 
 use crate::call::Made;
-use crate::pick::{Loose, Pick};
+use crate::pick::{HALF_BYTES, Loose, Pick};
 use crate::track::{Track, follow};
-use fx_base::zero_block;
+use fx_base::{BLOCK_BYTES, zero_block};
 use std::alloc::{AllocError, Global};
 
-/// The bytes that the write with this number put into the block, or those at entry where there is no
-/// such write.
+/// The bytes that the write with this number put into the block, or those at entry where there is
+/// no such write.
 pub fn bytes_by<'a>(
-    entry: &'a [[u8; 4096]],
+    entry: &'a [[u8; BLOCK_BYTES]],
     calls: &'a [Made],
     block: usize,
     number: u64,
-) -> &'a [u8; 4096]
+) -> &'a [u8; BLOCK_BYTES]
     requires { block < length entry.now }
     ensures { result.now ≡ bytes_by entry.now (map call_of calls.now) block number }
 {
@@ -88,22 +88,22 @@ fn choose(
 }
 
 // The first half of the written bytes, and then of the settled ones the second.
-fn half_of(written: &[u8; 4096], settled: &[u8; 4096]) -> [u8; 4096]
-    ensures { result ≡ take 2048 written.now ++ drop 2048 settled.now }
+fn half_of(written: &[u8; BLOCK_BYTES], settled: &[u8; BLOCK_BYTES]) -> [u8; BLOCK_BYTES]
+    ensures { result ≡ take HALF_BYTES written.now ++ drop HALF_BYTES settled.now }
 {
     let mut bytes = *settled;
-    bytes[..2048].copy_from_slice(&written[..2048]);
+    bytes[..HALF_BYTES].copy_from_slice(&written[..HALF_BYTES]);
     bytes
 }
 
 /// What is left in a block by a choice, `settled` being the write whose bytes are its settled ones.
 fn left_in(
-    entry: &[[u8; 4096]],
+    entry: &[[u8; BLOCK_BYTES]],
     calls: &[Made],
     block: usize,
     settled: u64,
     choice: Option<Loose>,
-) -> [u8; 4096]
+) -> [u8; BLOCK_BYTES]
     requires { block < length entry.now }
     ensures { result ≡ bytes_of_choice entry.now (map call_of calls.now) block settled choice }
 {
@@ -148,12 +148,12 @@ fn choose_all(
 // The blocks of the image of these choices.
 fn left_blocks(
     alloc: Global,
-    entry: &[[u8; 4096]],
+    entry: &[[u8; BLOCK_BYTES]],
     calls: &[Made],
     tracks: &[Track],
     flushed: u64,
     chosen: &[Option<Loose>],
-) -> Result<Vec<[u8; 4096]>, AllocError>
+) -> Result<Vec<[u8; BLOCK_BYTES]>, AllocError>
     requires tracks { length tracks.now ≡ length entry.now }
     requires chosen { length chosen.now ≡ length entry.now }
     ensures { IfOk result
@@ -171,11 +171,11 @@ fn left_blocks(
 /// The blocks of the image of the picks at the moment, or none where they are no picks.
 pub fn picked_blocks(
     alloc: Global,
-    entry: &[[u8; 4096]],
+    entry: &[[u8; BLOCK_BYTES]],
     calls: &[Made],
     moment: u64,
     picks: &[Pick],
-) -> Result<Option<Vec<[u8; 4096]>>, AllocError>
+) -> Result<Option<Vec<[u8; BLOCK_BYTES]>>, AllocError>
     requires record { IsRecordOf (length entry.now) (length (map call_of calls.now))
         (record_from entry.now (map call_of calls.now)) }
     requires moment { moment ≤ length calls.now }

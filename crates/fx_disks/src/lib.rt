@@ -1,5 +1,5 @@
-//! Two disks: one in memory, which keeps its record and gives every image that a stop may leave, and
-//! one over a file.
+//! Two disks: one in memory, which keeps its record and gives every image that a stop may leave,
+//! and one over a file.
 #![tactic(auto)]
 
 mod call;

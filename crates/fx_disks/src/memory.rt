@@ -10,18 +10,18 @@ use crate::image::Image;
 use crate::left::{bytes_by, picked_blocks};
 use crate::numbers::Numbers;
 use crate::pick::Pick;
-use fx_base::{count_up, zero_block};
+use fx_base::{BLOCK_BYTES, count_up, zero_block};
 use fx_disk::{Disk, DiskFailed, MAX_CALLS};
 use std::alloc::{AllocError, Global};
 
 /// A disk in memory.
 ///
-/// A write costs the memory of its block; the image at entry is kept, never copied. A read or a write
-/// costs the logarithm of how many calls are to fail, beside the block.
+/// A write costs the memory of its block; the image at entry is kept, never copied. A read or a
+/// write costs the logarithm of how many calls are to fail, beside the block.
 #[derive(Drop)]
 pub struct MemDisk {
     alloc: Global,
-    entry: Vec<[u8; 4096]>,
+    entry: Vec<[u8; BLOCK_BYTES]>,
     calls: Vec<Made>,
     // For each block the number of its last good write, 0 for none. Empty before the first write.
     latest: Vec<u64>,
@@ -78,7 +78,7 @@ fn keep_write(
     blocks: usize,
     alloc: Global,
     at: u32,
-    from: &[u8; 4096],
+    from: &[u8; BLOCK_BYTES],
     ok: bool,
 ) -> bool
     requires at { at < blocks }
@@ -139,8 +139,8 @@ impl MemDisk {
         }
     }
 
-    /// The writes and flushes with these numbers, from 1, are to fail, and no other ones. It takes no
-    /// memory, and sorts the numbers in place.
+    /// The writes and flushes with these numbers, from 1, are to fail, and no other ones. It takes
+    /// no memory, and sorts the numbers in place.
     pub fn fail_calls(&mut self, calls: Vec<u64>)
         ensures listed { IsPermutation calls.items (memory_state self.new).fail_calls }
         ensures same { memory_state self.new
@@ -149,8 +149,8 @@ impl MemDisk {
         self.fail_calls = Numbers::of(calls);
     }
 
-    /// The reads with these numbers, from 1, are to fail, and no other ones. It takes no memory, and
-    /// sorts the numbers in place.
+    /// The reads with these numbers, from 1, are to fail, and no other ones. It takes no memory,
+    /// and sorts the numbers in place.
     pub fn fail_reads(&mut self, reads: Vec<u64>)
         ensures listed { IsPermutation reads.items (memory_state self.new).fail_reads }
         ensures same { memory_state self.new
@@ -159,7 +159,8 @@ impl MemDisk {
         self.fail_reads = Numbers::of(reads);
     }
 
-    /// The writes and flushes that were not made for want of memory. At `u64::MAX` the count stands still.
+    /// The writes and flushes that were not made for want of memory. At `u64::MAX` the count stands
+    /// still.
     pub fn starved(&self) -> u64
         ensures { result ≡ (memory_state self.now).starved }
     {
@@ -167,7 +168,7 @@ impl MemDisk {
     }
 
     // A read that is asked for, and whether it answers Ok.
-    fn try_read(&mut self, at: u32, into: &mut [u8; 4096]) -> bool
+    fn try_read(&mut self, at: u32, into: &mut [u8; BLOCK_BYTES]) -> bool
         requires { at < length (told_of self.old).entry }
         ensures state { IsAfterRead (memory_state self.old) (memory_state self.new) result }
         ensures bytes { result ≡ true →
@@ -188,7 +189,7 @@ impl MemDisk {
     }
 
     // A write that is asked for, and whether it answers Ok.
-    fn try_write(&mut self, at: u32, from: &[u8; 4096]) -> bool
+    fn try_write(&mut self, at: u32, from: &[u8; BLOCK_BYTES]) -> bool
         requires { at < length (told_of self.old).entry }
         ensures { Asks (memory_state self.old) (memory_state self.new) result
             (written_record (told_of self.old) at from.now result) }
@@ -247,12 +248,12 @@ impl MemDisk {
         true
     }
 
-    /// The image that a stop at this moment leaves where each loose block holds what is picked for it,
-    /// or else its settled bytes: the last that it held while it was not loose.
+    /// The image that a stop at this moment leaves where each loose block holds what is picked for
+    /// it, or else its settled bytes: the last that it held while it was not loose.
     ///
-    /// It is none exactly where the moment is beyond the calls, or where a pick is of a block that is not
-    /// loose, of a block that has another pick, or of a call that did not write its block by the call
-    /// after the moment. It costs the number of calls, of picks and of blocks together.
+    /// It is none exactly where the moment is beyond the calls, or where a pick is of a block that
+    /// is not loose, of a block that has another pick, or of a call that did not write its block by
+    /// the call after the moment. It costs the number of calls, of picks and of blocks together.
     pub fn image_at(
         &self,
         alloc: Global,
@@ -295,7 +296,7 @@ impl Disk for MemDisk {
         self.faults
     }
 
-    fn read(&mut self, at: u32, into: &mut [u8; 4096]) -> Result<(), DiskFailed>
+    fn read(&mut self, at: u32, into: &mut [u8; BLOCK_BYTES]) -> Result<(), DiskFailed>
         requires { at < length (told_of self.old).entry }
         ensures state { IsAfterRead (memory_state self.old) (memory_state self.new) (is_ok result) }
         ensures bytes { OnOk result (into.new ≡ slice_index_or (told_of self.old).contents at []) }
@@ -309,7 +310,7 @@ impl Disk for MemDisk {
         }
     }
 
-    fn write(&mut self, at: u32, from: &[u8; 4096]) -> Result<(), DiskFailed>
+    fn write(&mut self, at: u32, from: &[u8; BLOCK_BYTES]) -> Result<(), DiskFailed>
         requires { at < length (told_of self.old).entry }
         ensures state { Asks (memory_state self.old) (memory_state self.new) (is_ok result)
             (written_record (told_of self.old) at from.now (is_ok result)) }

@@ -1,5 +1,10 @@
 //! What is left in a loose block.
 
+use fx_base::BLOCK_BYTES;
+
+/// The bytes of half a block.
+pub const HALF_BYTES: usize = BLOCK_BYTES / 2;
+
 /// The bytes that a stop leaves in a loose block.
 #[derive(Clone, Copy, Debug, PartialEq, Eq)]
 pub enum Loose {

@@ -2,15 +2,15 @@ ghost use Rattle.std.specs.Prelude.{◌<◌, is_ok};
 ghost use Rattle.fx_disk.specs.Seen.{HasCalled};
 
 use super::*;
-use fx_disk::{Disk, DiskFailed};
+use fx_disk::{BLOCK_BYTES, Disk, DiskFailed};
 use std::alloc::{AllocError, Global};
 use std::fs::{self, File, Files, OpenOptions};
 use std::process::Abort;
 use std::test::Fail;
 
 // A block of one byte all over.
-fn block(byte: u8) -> [u8; 4096] {
-    [byte; 4096]
+fn block(byte: u8) -> [u8; BLOCK_BYTES] {
+    [byte; BLOCK_BYTES]
 }
 
 fn may_be_sent<T: Send + Drop>(_value: T) {}
@@ -43,7 +43,7 @@ fn picked(block: u32, loose: Loose) -> Pick {
 }
 
 /// A disk with these blocks.
-fn disk_of(alloc: Global, blocks: Vec<[u8; 4096]>) -> Option<MemDisk> {
+fn disk_of(alloc: Global, blocks: Vec<[u8; BLOCK_BYTES]>) -> Option<MemDisk> {
     if blocks.len() > 3 {
         return None;
     }
@@ -75,8 +75,8 @@ fn flush<D: Disk>(disk: &mut D) {
     let _ = disk.flush();
 }
 
-// Calls: 1 writes 11 to block 0; 2 flushes; 3 writes 12 to block 0; 4 fails to write 22 to block 1; 5 fails
-// to flush; 6 flushes; 7 writes 13 to block 0.
+// Calls: 1 writes 11 to block 0; 2 flushes; 3 writes 12 to block 0; 4 fails to write 22 to block 1;
+// 5 fails to flush; 6 flushes; 7 writes 13 to block 0.
 fn written(alloc: Global) -> Result<Option<MemDisk>, AllocError> {
     let Some(mut disk) = begun(alloc)? else {
         return Ok(None);
@@ -194,7 +194,7 @@ fn gives_every_image(rt: HostRuntime) -> Result<(), Fail> {
 }
 
 /// Reads a block, if the disk has it.
-fn read<D: Disk>(disk: &mut D, at: u32, into: &mut [u8; 4096]) -> Result<(), DiskFailed> {
+fn read<D: Disk>(disk: &mut D, at: u32, into: &mut [u8; BLOCK_BYTES]) -> Result<(), DiskFailed> {
     if at < disk.blocks() {
         disk.read(at, into)
     } else {
@@ -330,7 +330,11 @@ fn writes_nothing_after_a_failed_sync(rt: HostRuntime) -> Result<(), Fail> {
 
 /// Writes a block and flushes.
 #[tactic(auto, using(fx_disk::proofs::Frames::write_called, fx_disk::proofs::Frames::flush_called, fx_disk::proofs::Frames::called_then))]
-fn write_through<D: Disk>(disk: &mut D, at: u32, bytes: &[u8; 4096]) -> Result<(), DiskFailed>
+fn write_through<D: Disk>(
+    disk: &mut D,
+    at: u32,
+    bytes: &[u8; BLOCK_BYTES],
+) -> Result<(), DiskFailed>
     requires { at < (D.seen disk.old).size }
     ensures disk { HasCalled (D.seen disk.old) (D.seen disk.new) (is_ok result) }
 {

@@ -77,7 +77,8 @@ fn step(tracks: &mut Vec<Track>, flushed: u64, number: u64, call: &Made) -> u64
     }
 }
 
-// The tracks after the first `moment` calls, and the number of the last successful flush among them.
+// The tracks after the first `moment` calls, and the number of the last successful flush among
+// them.
 fn follow_calls(tracks: &mut Vec<Track>, calls: &[Made], moment: usize) -> u64
     requires fresh { tracks.old.items ≡ replicate (length tracks.old.items) fresh }
     requires calls { AllCallsOf (length tracks.old.items) (map call_of calls.now) }
@@ -111,8 +112,8 @@ fn follow_next(tracks: &mut Vec<Track>, calls: &[Made], moment: usize, flushed: 
     }
 }
 
-/// The tracks at the moment, and the number of the last successful flush before it. It costs the number
-/// of the calls.
+/// The tracks at the moment, and the number of the last successful flush before it. It costs the
+/// number of the calls.
 pub fn follow(tracks: &mut Vec<Track>, calls: &[Made], moment: usize) -> u64
     requires fresh { tracks.old.items ≡ replicate (length tracks.old.items) fresh }
     requires calls { AllCallsOf (length tracks.old.items) (map call_of calls.now) }

@@ -4,7 +4,7 @@ use Rattle.std.proofs.lemmas.List.{append-nil, take-append-drop, drop-drop}
 use Rattle.std.proofs.Math.Seq.{take-append-add, take-append_seam}
 use Rattle.std.specs.Prelude.{Option, None, Some, Result, Ok, Err, OnErr}
 use Rattle.std.specs.Io.KnownBytes.{prepend_known, append_known}
-use Rattle.fx_io.specs.Told.{Gives, GivesAtMost, Takes, TakesFront}
+use Rattle.fx_io.specs.Told.{Gives, GivesAtMost, TakesAll, TakesFront}
 
 pub prepend_known-prepend_known : (x y : List ℕ) (known : Option (List ℕ)) → prepend_known x (prepend_known y known) ≡ prepend_known (x ++ y) known
 prepend_known-prepend_known x y None = refl
@@ -21,23 +21,23 @@ gives_none (Some rest) = refl
 pub gives_more : (before between now : Option (List ℕ)) (x y : List ℕ) → Gives before between x → Gives between now y → Gives before now (x ++ y)
 gives_more before between now x y p q = p ∙ ap (prepend_known x) q ∙ prepend_known-prepend_known x y now
 
-pub takes_none : (now : Option (List ℕ)) → Takes now now []
+pub takes_none : (now : Option (List ℕ)) → TakesAll now now []
 takes_none None = refl
 takes_none (Some text) = ap Some (sym (append-nil text))
 
-pub takes_more : (before between now : Option (List ℕ)) (x y : List ℕ) → Takes before between x → Takes between now y → Takes before now (x ++ y)
+pub takes_more : (before between now : Option (List ℕ)) (x y : List ℕ) → TakesAll before between x → TakesAll between now y → TakesAll before now (x ++ y)
 takes_more before between now x y p q = q ∙ ap (λ known. append_known known y) p ∙ append_known-append_known before x y
 
 -- The sink has taken the bytes of the text that stand before the rest.
 pub record Written (before now : Option (List ℕ)) (text rest : List ℕ) : Type 0 where
   pub done : List ℕ
   pub whole : text ≡ done ++ rest
-  pub taken : Takes before now done
+  pub taken : TakesAll before now done
 
 pub written_none : (before : Option (List ℕ)) (text : List ℕ) → Written before before text text
 written_none before text = record { done = []; whole = refl; taken = takes_none before }
 
-pub written_more : (before between now : Option (List ℕ)) (text rest : List ℕ) (n : ℕ) → Written before between text rest → Takes between now (take n rest)
+pub written_more : (before between now : Option (List ℕ)) (text rest : List ℕ) (n : ℕ) → Written before between text rest → TakesAll between now (take n rest)
     → Written before now text (drop n rest)
 written_more before between now text rest n w p = record {
   done = w.done ++ take n rest;
@@ -45,13 +45,13 @@ written_more before between now text rest n w p = record {
   taken = takes_more before between now w.done (take n rest) w.taken p;
 }
 
-pub written_all : (before now : Option (List ℕ)) (text rest : List ℕ) → rest ≡ [] → Written before now text rest → Takes before now text
-written_all before now text rest e w = subst (Takes before now) (sym (w.whole ∙ ap (λ r. w.done ++ r) e ∙ append-nil w.done)) w.taken
+pub written_all : (before now : Option (List ℕ)) (text rest : List ℕ) → rest ≡ [] → Written before now text rest → TakesAll before now text
+written_all before now text rest e w = subst (TakesAll before now) (sym (w.whole ∙ ap (λ r. w.done ++ r) e ∙ append-nil w.done)) w.taken
 
 pub written_front : (before between now : Option (List ℕ)) (text rest : List ℕ) → Written before between text rest → TakesFront between now rest
     → TakesFront before now text
 written_front before between now text rest w p =
-    (length w.done + p.0, subst (Takes before now) (sym (ap (take (length w.done + p.0)) w.whole ∙ take-append-add w.done rest p.0)) (takes_more before between now w.done (take p.0 rest) w.taken p.1))
+    (length w.done + p.0, subst (TakesAll before now) (sym (ap (take (length w.done + p.0)) w.whole ∙ take-append-add w.done rest p.0)) (takes_more before between now w.done (take p.0 rest) w.taken p.1))
 
 pub gives_most : (before now : Option (List ℕ)) (bytes : List ℕ) (most : ℕ) → Gives before now bytes → length bytes ≤ most → GivesAtMost before now most
 gives_most before now bytes most g h = (length bytes, h, (bytes, g, refl))

@@ -2,7 +2,7 @@
 use Rattle.std.specs.Prelude.{ℕ, ◌≤◌, Bool, true, false, List, Option, length}
 use Rattle.std.specs.Io.KnownBytes.{IsAtEnd}
 use Rattle.fx_base.specs.Causes.{CountsFault}
-use Rattle.fx_io.specs.Told.{Gives, Takes, TakesFront}
+use Rattle.fx_io.specs.Told.{Gives, TakesAll, TakesFront}
 
 -- A source as its callers see it.
 pub record SourceSeen : Type 0 where
@@ -18,8 +18,8 @@ pub record SinkSeen : Type 0 where
   -- the calls that failed; the count stands still at its end
   pub faults : ℕ
 
--- What any calls of a source do: it has given some bytes, which may be none, and its count of faults
--- never falls.
+-- What any calls of a source do: it has given some bytes, which may be none, and its count of
+-- faults never falls.
 pub record SourceGoesOn (before after : SourceSeen) : Type 0 where
   pub bytes : List ℕ
   pub gives : Gives before.left after.left bytes
@@ -29,7 +29,7 @@ pub record SourceGoesOn (before after : SourceSeen) : Type 0 where
 -- faults never falls.
 pub record SinkGoesOn (before after : SinkSeen) : Type 0 where
   pub bytes : List ℕ
-  pub takes : Takes before.text after.text bytes
+  pub takes : TakesAll before.text after.text bytes
   pub faults : before.faults ≤ after.faults
 
 -- The source was read to its end, and gave these bytes, no more than the limit.
@@ -40,7 +40,7 @@ pub record GivesWhole (before after : SourceSeen) (limit : ℕ) (text : List ℕ
 
 -- The sink took all of a text, or a front of it where a call failed.
 abbrev pub TakesUnless : Bool → Option (List ℕ) → Option (List ℕ) → List ℕ → Type 0
-TakesUnless true before now text = Takes before now text
+TakesUnless true before now text = TakesAll before now text
 TakesUnless false before now text = TakesFront before now text
 
 -- A text was written: all of it, or a front of it where a call failed, which is counted.

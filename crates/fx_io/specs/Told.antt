@@ -1,5 +1,5 @@
--- What a call does to the bytes that a source has left and to those that a sink has taken. An object
--- that tells them keeps telling, and one that does not never does.
+-- What a call does to the bytes that a source has left and to those that a sink has taken. An
+-- object that tells them keeps telling, and one that does not never does.
 use Rattle.std.specs.Prelude.{◌≡◌, ℕ, ◌≤◌, List, Option, length, take}
 use Rattle.std.specs.Io.KnownBytes.{prepend_known, append_known}
 
@@ -16,9 +16,9 @@ abbrev pub GivesAtMost : Option (List ℕ) → Option (List ℕ) → ℕ → Typ
 GivesAtMost before now most = (n : ℕ) × (n ≤ most) × GivesCount before now n
 
 -- The sink has what it had, and then these bytes.
-abbrev pub Takes : Option (List ℕ) → Option (List ℕ) → List ℕ → Type 0
-Takes before now bytes = now ≡ append_known before bytes
+abbrev pub TakesAll : Option (List ℕ) → Option (List ℕ) → List ℕ → Type 0
+TakesAll before now bytes = now ≡ append_known before bytes
 
 -- The sink has what it had, and then the first of these bytes, which may be none.
 abbrev pub TakesFront : Option (List ℕ) → Option (List ℕ) → List ℕ → Type 0
-TakesFront before now bytes = (n : ℕ) × Takes before now (take n bytes)
+TakesFront before now bytes = (n : ℕ) × TakesAll before now (take n bytes)

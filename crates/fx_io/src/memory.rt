@@ -1,5 +1,5 @@
 //! A source and a sink in memory, whose calls fail on demand.
-ghost use Rattle.std.specs.Prelude.{None, Some, ◌≡◌, ◌<◌, ◌≤◌, ◌++◌, ◌↔◌, [], length, min, take, Contains, IfOk, IsTrue, IsErr, OnOk, OnErr, is_ok, if◌then◌else◌};
+ghost use Rattle.std.specs.Prelude.{Some, ◌≡◌, ◌<◌, ◌≤◌, ◌↔◌, [], length, min, Contains, IfOk, IsTrue, IsErr, OnErr, is_ok, if◌then◌else◌};
 ghost use Rattle.fx_base.specs.Causes.{risen};
 
 use super::{Failed, Sink, Source};
@@ -77,8 +77,8 @@ impl Model for MemSource {
 
 impl MemSource {
     /// A source of this text, which gives at most `piece` bytes a call. The calls of `read` whose
-    /// numbers, from 1, stand in `fails` fail, and no others. The counts of calls and of faults stop
-    /// at `u64::MAX`.
+    /// numbers, from 1, stand in `fails` fail, and no others. The counts of calls and of faults
+    /// stop at `u64::MAX`.
     pub fn new(text: Vec<u8>, piece: u32, fails: Vec<u64>) -> MemSource
         requires { 0 < piece }
         ensures { result ≡ record {
@@ -99,15 +99,13 @@ impl MemSource {
 }
 
 impl Source for MemSource {
+    ghost use Rattle.fx_io.specs.Memory.{GivesPiece};
+
     ghost seen = { λ s. record { left = Some s.left; faults = s.faults } };
 
     fn read(&mut self, into: &mut [u8]) -> Result<usize, Failed>
         requires { 0 < length into.old }
-        ensures count { IfOk result (λ n. n ≤ length into.new) }
-        ensures piece { IfOk result
-            (λ n. n ≡ min (min (length into.new) (length self.old.left)) self.old.piece) }
-        ensures gives { IfOk result (λ n. self.old.left ≡ take n into.new ++ self.new.left) }
-        ensures ended { IfOk result (λ n. n ≡ 0 → self.new.left ≡ []) }
+        ensures gives { IfOk result (GivesPiece self.old self.new into.new) }
         ensures kept { OnErr result (self.new.left ≡ self.old.left) }
 
         // It fails exactly at the calls of its list.
@@ -134,8 +132,8 @@ impl Source for MemSource {
     }
 }
 
-/// A sink in memory: keeps what it takes, and fails at the listed calls and where there is no memory.
-/// A call walks the list of failing calls; else it costs the bytes that it takes.
+/// A sink in memory: keeps what it takes, and fails at the listed calls and where there is no
+/// memory. A call walks the list of failing calls; else it costs the bytes that it takes.
 #[derive(Debug, Drop)]
 pub struct MemSink {
     text: Vec<u8>,
@@ -201,22 +199,17 @@ impl MemSink {
 }
 
 impl Sink for MemSink {
+    ghost use Rattle.fx_io.specs.Memory.{TakesPiece, CountsStarved};
+
     ghost seen = { λ s. record { text = Some s.text; faults = s.faults } };
 
     fn write(&mut self, piece: &[u8]) -> Result<usize, Failed>
-        ensures count { IfOk result (λ n. n ≤ length piece.now) }
-        ensures piece { IfOk result (λ n. n ≡ min (length piece.now) self.old.piece) }
-        ensures moves { 0 < length piece.now → IfOk result (λ n. 0 < n) }
-        ensures takes { IfOk result (λ n. self.new.text ≡ self.old.text ++ take n piece.now) }
+        ensures takes { IfOk result (TakesPiece self.old self.new piece.now) }
         ensures kept { OnErr result (self.new.text ≡ self.old.text) }
 
         // It fails at the calls of its list, and at another only where there is no memory.
         ensures fails { Contains self.old.fails self.new.calls → IsErr result }
-        ensures listed { Contains self.old.fails self.new.calls
-            → self.new.starved ≡ self.old.starved }
-        ensures unlisted { ¬ (Contains self.old.fails self.new.calls)
-            → self.new.starved ≡ (if is_ok result then self.old.starved
-            else risen self.old.starved) }
+        ensures starved { CountsStarved self.old self.new (is_ok result) }
         ensures counts { self.new ≡ record self.old {
           text = self.new.text;
           calls = risen self.old.calls;

@@ -48,9 +48,9 @@ pub enum ReadAllFault {
     OutOfMemory,
 }
 
-/// All bytes of the source to its end, at most `limit` of them. Takes `limit + 1` bytes at most, also
-/// where it is refused; those bytes are then lost. Its memory grows by doubling, so the time is that
-/// of the number of bytes.
+/// All bytes of the source to its end, at most `limit` of them. Takes `limit + 1` bytes at most,
+/// also where it is refused; those bytes are then lost. Its memory grows by doubling, so the time
+/// is that of the number of bytes.
 pub fn read_whole<S: Source>(alloc: Global, src: &mut S, limit: u32) -> Result<Bytes, ReadAllFault>
     ensures whole { IfOk result (λ text. GivesWhole (S.seen src.old) (S.seen src.new) limit text) }
     ensures too_much { IsErrOf result ReadAllFault.TooMuch

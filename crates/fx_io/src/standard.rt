@@ -10,8 +10,8 @@ use std::io::{BufReader, ErrorKind, Read};
 use std::marker::Model;
 
 /// Standard input as a source. A read of fewer bytes than its buffer holds (8 KiB) is served from
-/// the buffer, so that small reads cost no system call each; a larger one goes to the system. What the
-/// reader behind it gives is passed on, and none of it is lost.
+/// the buffer, so that small reads cost no system call each; a larger one goes to the system. What
+/// the reader behind it gives is passed on, and none of it is lost.
 #[derive(Drop)]
 pub struct StdSource<R: Read + Drop> {
     reader: BufReader<R>,
@@ -31,7 +31,8 @@ impl<R: Read + Drop> Model for StdSource<R> {
 }
 
 impl<R: Read + Drop> StdSource<R> {
-    /// Standard input, of which no call has failed yet. Fails where there is no memory for the buffer.
+    /// Standard input, of which no call has failed yet. Fails where there is no memory for the
+    /// buffer.
     pub fn on<I: Input<Reader = R>>(rt: &I, alloc: Global) -> Result<StdSource<R>, AllocError>
         ensures { IfOk result (λ s. s.faults ≡ 0) }
     {
@@ -85,8 +86,8 @@ fn read_some<R: Read>(reader: &mut R, into: &mut [u8]) -> Option<usize>
     None
 }
 
-/// Standard output as a sink. Each write is one system call and nothing is held back, so that a byte
-/// counts as taken only when the system took it: hand over large pieces.
+/// Standard output as a sink. Each write is one system call and nothing is held back, so that a
+/// byte counts as taken only when the system took it: hand over large pieces.
 #[derive(Drop)]
 pub struct StdSink<P: Print + Drop> {
     out: P,
@@ -102,8 +103,8 @@ impl<P: Print + Drop> Model for StdSink<P> {
 }
 
 impl<P: Print + Clone + Drop> StdSink<P> {
-    /// Standard output, of which no call has failed yet. Fails where there is no memory for a handle
-    /// of its own on the runtime.
+    /// Standard output, of which no call has failed yet. Fails where there is no memory for a
+    /// handle of its own on the runtime.
     pub fn on(rt: &P) -> Result<StdSink<P>, AllocError>
         ensures { IfOk result (λ s. s ≡ 0) }
     {

@@ -28,7 +28,8 @@ pub record IsBody (bytes : List ℕ) (sequence epoch : ℕ) (text : List ℕ) : 
   pub fits : epoch < 2 ^ 64
   pub bytes_are : bytes ≡ body sequence epoch text
 
--- The block is of the form: it holds these record bytes under this sequence and epoch, in this chain.
+-- The block is of the form: it holds these record bytes under this sequence and epoch, in this
+-- chain.
 pub record Holds (block : List ℕ) (sequence epoch chain : ℕ) (text : List ℕ) : Type 0 where
   pub filled : 1 ≤ length text
   pub room : length text ≤ RECORD_BYTES
@@ -42,7 +43,8 @@ stated_sum block = little_number 8 (drop SUM_AT block)
 abbrev pub sum_from : ℕ → List ℕ → ℕ
 sum_from chain block = fletch chain (take SUM_AT block)
 
--- The block stands in the stream after the chain: it is of the form, and its epoch lies in the range.
+-- The block stands in the stream after the chain: it is of the form, and its epoch lies in the
+-- range.
 pub record Continues (block : List ℕ) (sequence floor generation chain epoch : ℕ) (text : List ℕ)
     : Type 0 where
   pub holds : Holds block sequence epoch chain text

@@ -1,6 +1,6 @@
-//! The blocks of the journal, which is a write-ahead log: 4,096 bytes each, with a sequence number, an
-//! epoch, record bytes and a checksum that begins at the checksum of the block before, so that the
-//! blocks make a chain, and a torn or an older block ends it.
+//! The blocks of the journal, which is a write-ahead log: 4,096 bytes each, with a sequence number,
+//! an epoch, record bytes and a checksum that begins at the checksum of the block before, so that
+//! the blocks make a chain, and a torn or an older block ends it.
 #![tactic(auto)]
 
 ghost use Rattle.std.specs.Prelude.{◌≡◌, ◌<◌, ◌≤◌, ◌-◌, ◌↔◌, IsTrue, MatchOption, ℕ, List, length, drop, replicate};
@@ -51,8 +51,8 @@ pub enum Fit {
     },
 }
 
-/// Fills a block with record bytes, and answers the chain after it. `text` has 1 to 4,064 bytes, and
-/// an epoch is at least 1. One pass over the block, and no memory.
+/// Fills a block with record bytes, and answers the chain after it. `text` has 1 to 4,064 bytes,
+/// and an epoch is at least 1. One pass over the block, and no memory.
 pub fn pack(seq: u64, epoch: u64, chain: u64, text: &[u8], into: &mut [u8; BLOCK_BYTES]) -> u64
     requires filled { 1 ≤ length text.now }
     requires room { length text.now ≤ RECORD_BYTES }
@@ -137,7 +137,8 @@ fn form_of(before: &[u8], seq: u64) -> Option<(u64, u16)>
     None
 }
 
-/// Whether `used` bytes, at least one, stand in the place of the record bytes, and zeros after them.
+/// Whether `used` bytes, at least one, stand in the place of the record bytes, and zeros after
+/// them.
 fn is_filled(records: &[u8], used: u16) -> bool
     ensures { IsTrue result ↔ ((0 < used) × (used ≤ length records.now)
         × (drop used records.now ≡ replicate (length records.now - used) 0)) }

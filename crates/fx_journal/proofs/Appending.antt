@@ -4,9 +4,8 @@ use Rattle.std.specs.Prelude.{All, sum_by}
 use Rattle.std.proofs.lemmas.List.{append_assoc, append-nil, length-append}
 use Rattle.std.proofs.lemmas.List.Elements.{All-push}
 use Rattle.std.proofs.lemmas.List.{flat_map_more}
-use Rattle.fx_jblock.specs.declared.Start.{Start}
 use Rattle.fx_pool.specs.Region.{Region, Run}
-use Rattle.fx_journal.specs.Ring.{RingState, Queued, IsRing, KeepsBuffers, KeepsOthers, HoldsQueue, Appended, IsFilled, first_chain, texts, begun, closes, unfinished, want, blocks_out, run_blocks}
+use Rattle.fx_journal.specs.Ring.{RingState, Queued, IsRing, KeepsBuffers, KeepsRest, HoldsQueue, Appended, IsFilled, first_chain, texts, begun, closes, unfinished, want, blocks_out, run_blocks}
 use Rattle.fx_journal.proofs.Buffers.{others-none, others-same}
 use Rattle.fx_journal.proofs.Queues.{first_chain-push}
 
@@ -36,7 +35,7 @@ pub record Going (first now : RingState) (a b : Region) (rest whole : List ℕ) 
   pub buffers : KeepsBuffers now.buffers b
   pub buffers_same : now.buffers ≡ first.buffers
   pub out : b.out ≡ a.out
-  pub others : KeepsOthers first.buffers a b
+  pub others : KeepsRest first.buffers a b
   pub start : now.start ≡ first.start
   pub size : now.size ≡ first.size
   pub epoch : now.epoch ≡ first.epoch
@@ -84,13 +83,13 @@ pieces-more first now b c queue piece later rest whole split full step h = recor
   joined = joined-more h.blocks (unfinished now piece) now.text piece later rest refl split ∙ h.joined;
 }
 
-going-closes : (first now : RingState) (a b c : Region) (piece later rest whole : List ℕ) → Going first now a b rest whole → rest ≡ piece ++ later → length now.text + length piece ≡ 4064 → 1 ≤ begun now.text + now.promised → c.out ≡ b.out → KeepsOthers now.buffers b c → IsRing (closes now piece) → KeepsBuffers (closes now piece).buffers c → ((l : List Queued) → HoldsQueue now b l → HoldsQueue (closes now piece) c (l ++ unfinished now piece ∷ [])) → Going first (closes now piece) a c later whole
+going-closes : (first now : RingState) (a b c : Region) (piece later rest whole : List ℕ) → Going first now a b rest whole → rest ≡ piece ++ later → length now.text + length piece ≡ 4064 → 1 ≤ begun now.text + now.promised → c.out ≡ b.out → KeepsRest now.buffers b c → IsRing (closes now piece) → KeepsBuffers (closes now piece).buffers c → ((l : List Queued) → HoldsQueue now b l → HoldsQueue (closes now piece) c (l ++ unfinished now piece ∷ [])) → Going first (closes now piece) a c later whole
 going-closes first now a b c piece later rest whole h split full has out others ok kept step = record {
   ring = ok;
   buffers = kept;
   buffers_same = h.buffers_same;
   out = out ∙ h.out;
-  others = others-same first.buffers a b c h.others (subst (λ (l : List Run). KeepsOthers l b c) h.buffers_same others);
+  others = others-same first.buffers a b c h.others (subst (λ (l : List Run). KeepsRest l b c) h.buffers_same others);
   start = h.start;
   size = h.size;
   epoch = h.epoch;
@@ -101,7 +100,7 @@ going-closes first now a b c piece later rest whole h split full has out others 
 }
 
 -- One more full block.
-pub going-more : (first now next : RingState) (a b c : Region) (piece later rest whole : List ℕ) → Going first now a b rest whole → rest ≡ piece ++ later → length now.text + length piece ≡ 4064 → 1 ≤ begun now.text + now.promised → c.out ≡ b.out → KeepsOthers now.buffers b c → next ≡ closes now piece → IsRing next → KeepsBuffers next.buffers c → ((l : List Queued) → HoldsQueue now b l → HoldsQueue next c (l ++ unfinished now piece ∷ [])) → Going first next a c later whole
+pub going-more : (first now next : RingState) (a b c : Region) (piece later rest whole : List ℕ) → Going first now a b rest whole → rest ≡ piece ++ later → length now.text + length piece ≡ 4064 → 1 ≤ begun now.text + now.promised → c.out ≡ b.out → KeepsRest now.buffers b c → next ≡ closes now piece → IsRing next → KeepsBuffers next.buffers c → ((l : List Queued) → HoldsQueue now b l → HoldsQueue next c (l ++ unfinished now piece ∷ [])) → Going first next a c later whole
 going-more first now next a b c piece later rest whole h split full has out others e =
     subst (λ (n : RingState). IsRing n → KeepsBuffers n.buffers c → ((l : List Queued) → HoldsQueue now b l → HoldsQueue n c (l ++ unfinished now piece ∷ [])) → Going first n a c later whole) (sym e)
     (going-closes first now a b c piece later rest whole h split full has out others)
@@ -146,6 +145,6 @@ ends-given first now begun_ring last a b c rest whole unused h ok_first ok_begun
     let out : blocks_out b ≡ blocks_out a = ap (λ (t : List (Option ℕ)). sum_by run_blocks t) h.out in
     omega (arith, same, out, given, few, ok_begun.buffers_len, ok_last.buffers_len, ap (λ (r : RingState). r.promised) f, ap (λ (r : RingState). r.queued) f, ap (λ (r : RingState). begun r.text) f)
 
-pub ends-others : (first now begun_ring : RingState) (a b c : Region) (rest whole : List ℕ) → Going first now a b rest whole → begun_ring ≡ begins now rest → KeepsOthers begun_ring.buffers b c → KeepsOthers first.buffers a c
+pub ends-others : (first now begun_ring : RingState) (a b c : Region) (rest whole : List ℕ) → Going first now a b rest whole → begun_ring ≡ begins now rest → KeepsRest begun_ring.buffers b c → KeepsRest first.buffers a c
 ends-others first now begun_ring a b c rest whole h e others =
-    others-same first.buffers a b c h.others (subst (λ (l : List Run). KeepsOthers l b c) (ap (λ (r : RingState). r.buffers) e ∙ h.buffers_same) others)
+    others-same first.buffers a b c h.others (subst (λ (l : List Run). KeepsRest l b c) (ap (λ (r : RingState). r.buffers) e ∙ h.buffers_same) others)

@@ -1,9 +1,10 @@
 -- The ring's buffers over the steps of the pool.
-use Rattle.std.proofs.Common.{◌≡◌, ◌≢◌, ℕ, suc, zero, ◌+◌, ◌-◌, ◌*◌, ◌^◌, ◌<◌, ◌≤◌, List, [], ◌∷◌, ◌++◌, length, take, drop, get_or, set, Option, Some, None, refl, sym, ◌∙◌, subst, ap, inl, inr, arith}
+use Rattle.std.proofs.Common.{◌≡◌, ◌≢◌, ℕ, suc, ◌+◌, ◌-◌, ◌*◌, ◌^◌, ◌<◌, ◌≤◌, List, [], ◌∷◌, ◌++◌, length, take, drop, get_or, Option, None, refl, sym, ◌∙◌, subst, ap, inl, inr, arith}
 use Rattle.std.proofs.lemmas.Bool.{cases_lt}
-use Rattle.std.proofs.lemmas.List.{take_all, take-take, get_or_append_left, get_or_push, get_or-drop, get_or-take, length-append, length-drop, length-take, length_push}
-use Rattle.fx_pool.specs.Region.{Region, Run, IsSound, IsOut, bytes_of}
-use Rattle.fx_journal.specs.Ring.{RingState, IsRing, run_at, KeepsBuffers, KeepsOthers, KeepsRing, IsOther, blocks_out}
+use Rattle.std.proofs.lemmas.List.{take_all, take-take, get_or_append_left, get_or_push, get_or-drop, get_or-take, length-drop, length-take, length_push}
+use Rattle.fx_pool.specs.Region.{Region, Run, IsSound, IsOut}
+use Rattle.fx_journal.specs.Ring.{RingState, IsRing, run_at, KeepsBuffers, KeepsRest, KeepsRing, IsOther}
+use Rattle.fx_journal.specs.Buffers.{TookBuffers, GaveBuffers}
 
 -- one more buffer
 at_front : (runs : List Run) (b : Run) (i : ℕ) → i < length runs → run_at (runs ++ b ∷ []) i ≡ run_at runs i
@@ -64,7 +65,7 @@ kept-same runs old new h sound e = record {
 }
 
 -- a buffer that is given: the others stay
-pub others-given : (own : List Run) (x : Run) (i : ℕ) (old new : Region) → i < length own → run_at own i ≡ x → new.order ≡ old.order → new.bytes ≡ old.bytes → ((run : Run) → run.start ≢ x.start → IsOut old run → IsOut new run) → KeepsOthers own old new
+pub others-given : (own : List Run) (x : Run) (i : ℕ) (old new : Region) → i < length own → run_at own i ≡ x → new.order ≡ old.order → new.bytes ≡ old.bytes → ((run : Run) → run.start ≢ x.start → IsOut old run → IsOut new run) → KeepsRest own old new
 others-given own x i old new lt e order bytes still = record {
   order = order;
   out = λ run out other. still run (λ same. other i lt (same ∙ sym (ap (λ (r : Run). r.start) e))) out;
@@ -77,31 +78,31 @@ other-drop own k run h = λ i lt e. h (k + i) (omega (arith, length-drop k own))
 other-take : (own : List Run) (k : ℕ) (run : Run) → IsOther own run → IsOther (take k own) run
 other-take own k run h = λ i lt e. h i (omega (arith, length-take k own)) (e ∙ ap (λ (r : Run). r.start) (get_or-take k own i (record { start = 0; order = 0 }) (omega (arith, length-take k own))))
 
-pub others-none : (own : List Run) (p : Region) → KeepsOthers own p p
+pub others-none : (own : List Run) (p : Region) → KeepsRest own p p
 others-none own p = record { order = refl; out = λ run out other. out; bytes = λ run out other. refl }
 
 -- a call that changes nothing
 pub keeps-same : (ring : RingState) (p : Region) → IsRing ring → KeepsBuffers ring.buffers p → KeepsRing ring ring p p
 keeps-same ring p is buffers = record { size = refl; epoch = refl; ring = is; buffers = buffers; others = others-none ring.buffers p }
 
-others-then : (own later : List Run) (a b c : Region) → ((run : Run) → IsOther own run → IsOther later run) → KeepsOthers own a b → KeepsOthers later b c → KeepsOthers own a c
+others-then : (own later : List Run) (a b c : Region) → ((run : Run) → IsOther own run → IsOther later run) → KeepsRest own a b → KeepsRest later b c → KeepsRest own a c
 others-then own later a b c less first second = record {
   order = second.order ∙ first.order;
   out = λ run out other. second.out run (first.out run out other) (less run other);
   bytes = λ run out other. second.bytes run (first.out run out other) (less run other) ∙ first.bytes run out other;
 }
 
-pub others-drop : (own : List Run) (k : ℕ) (a b c : Region) → KeepsOthers own a b → KeepsOthers (drop k own) b c → KeepsOthers own a c
+pub others-drop : (own : List Run) (k : ℕ) (a b c : Region) → KeepsRest own a b → KeepsRest (drop k own) b c → KeepsRest own a c
 others-drop own k a b c first second = others-then own (drop k own) a b c (other-drop own k) first second
 
-pub others-take : (own : List Run) (k : ℕ) (a b c : Region) → KeepsOthers own a b → KeepsOthers (take k own) b c → KeepsOthers own a c
+pub others-take : (own : List Run) (k : ℕ) (a b c : Region) → KeepsRest own a b → KeepsRest (take k own) b c → KeepsRest own a c
 others-take own k a b c first second = others-then own (take k own) a b c (other-take own k) first second
 
-pub others-same : (own : List Run) (a b c : Region) → KeepsOthers own a b → KeepsOthers own b c → KeepsOthers own a c
+pub others-same : (own : List Run) (a b c : Region) → KeepsRest own a b → KeepsRest own b c → KeepsRest own a c
 others-same own a b c first second = others-then own own a b c (λ run other. other) first second
 
 -- nothing that was out has changed
-pub others-all : (own : List Run) (a b : Region) → b.order ≡ a.order → b.bytes ≡ a.bytes → ((run : Run) → IsOut a run → IsOut b run) → KeepsOthers own a b
+pub others-all : (own : List Run) (a b : Region) → b.order ≡ a.order → b.bytes ≡ a.bytes → ((run : Run) → IsOut a run → IsOut b run) → KeepsRest own a b
 others-all own a b order bytes still = record {
   order = order;
   out = λ run out other. still run out;
@@ -121,23 +122,8 @@ last-out own front x p e h =
     let within : length front < length (front ++ x ∷ []) = omega (arith, length_push front x) in
     (subst (λ (r : Run). IsOut p r) last (k.out (length front) within), sym (ap (λ (r : Run). r.order) last) ∙ k.single (length front) within)
 
--- After so many buffers were taken, and after so many were given.
-pub record Took (own now : List Run) (first last : Region) (count : ℕ) : Type 0 where
-  pub buffers : KeepsBuffers now last
-  pub kept : take (length own) now ≡ own
-  pub len : length now ≡ length own + count
-  pub others : (run : Run) → IsOut first run → IsOut last run
-  pub bytes : last.bytes ≡ first.bytes
-  pub order : last.order ≡ first.order
-  pub counted : blocks_out last ≡ blocks_out first + count
-
-pub record Gave (own now : List Run) (first last : Region) (count : ℕ) : Type 0 where
-  pub buffers : KeepsBuffers now last
-  pub others : KeepsOthers own first last
-  pub bytes : last.bytes ≡ first.bytes
-  pub counted : blocks_out last + count ≡ blocks_out first
-
-pub took-none : (own : List Run) (p : Region) → KeepsBuffers own p → Took own own p p 0
+-- So many buffers were taken, or given back, one after another.
+pub took-none : (own : List Run) (p : Region) → KeepsBuffers own p → TookBuffers own own p p 0
 took-none own p h = record {
   buffers = h;
   kept = take_all (length own) own (omega arith);
@@ -148,32 +134,32 @@ took-none own p h = record {
   counted = omega arith;
 }
 
-pub took-more : (own now more : List Run) (a b c : Region) (n : ℕ) → Took own now a b n → take (length now) more ≡ now → length more ≡ length now + 1 → KeepsBuffers more c → ((run : Run) → IsOut b run → IsOut c run) → c.bytes ≡ b.bytes → c.order ≡ b.order → blocks_out c ≡ blocks_out b + 1 → Took own more a c (n + 1)
-took-more own now more a b c n h front len buffers still bytes order counted = record {
-  buffers = buffers;
-  kept = sym (take-take (length own) (length now) more (omega (arith, h.len))) ∙ ap (λ (l : List Run). take (length own) l) front ∙ h.kept;
-  len = omega (arith, h.len);
-  others = λ run out. still run (h.others run out);
-  bytes = bytes ∙ h.bytes;
-  order = order ∙ h.order;
-  counted = omega (arith, h.counted);
+pub took-more : (own now more : List Run) (a b c : Region) (n : ℕ) → TookBuffers own now a b n → TookBuffers now more b c 1 → TookBuffers own more a c (n + 1)
+took-more own now more a b c n h one = record {
+  buffers = one.buffers;
+  kept = sym (take-take (length own) (length now) more (omega (arith, h.len))) ∙ ap (λ (l : List Run). take (length own) l) one.kept ∙ h.kept;
+  len = omega (arith, h.len, one.len);
+  others = λ run out. one.others run (h.others run out);
+  bytes = one.bytes ∙ h.bytes;
+  order = one.order ∙ h.order;
+  counted = omega (arith, h.counted, one.counted);
 }
 
-pub gave-none : (own : List Run) (p : Region) → KeepsBuffers own p → Gave own own p p 0
+pub gave-none : (own : List Run) (p : Region) → KeepsBuffers own p → GaveBuffers own own p p 0
 gave-none own p h = record { buffers = h; others = others-none own p; bytes = refl; counted = omega arith }
 
-pub gave-first : (own now less : List Run) (a b c : Region) (n : ℕ) → now ≡ drop n own → Gave own now a b n → KeepsBuffers less c → KeepsOthers now b c → c.bytes ≡ b.bytes → blocks_out c + 1 ≡ blocks_out b → Gave own less a c (n + 1)
-gave-first own now less a b c n e h buffers others bytes counted = record {
-  buffers = buffers;
-  others = others-drop own n a b c h.others (subst (λ (l : List Run). KeepsOthers l b c) e others);
-  bytes = bytes ∙ h.bytes;
-  counted = omega (arith, h.counted);
+pub gave-first : (own now less : List Run) (a b c : Region) (n : ℕ) → now ≡ drop n own → GaveBuffers own now a b n → GaveBuffers now less b c 1 → GaveBuffers own less a c (n + 1)
+gave-first own now less a b c n e h one = record {
+  buffers = one.buffers;
+  others = others-drop own n a b c h.others (subst (λ (l : List Run). KeepsRest l b c) e one.others);
+  bytes = one.bytes ∙ h.bytes;
+  counted = omega (arith, h.counted, one.counted);
 }
 
-pub gave-last : (own now less : List Run) (a b c : Region) (k n : ℕ) → now ≡ take k own → Gave own now a b n → KeepsBuffers less c → KeepsOthers now b c → c.bytes ≡ b.bytes → blocks_out c + 1 ≡ blocks_out b → Gave own less a c (n + 1)
-gave-last own now less a b c k n e h buffers others bytes counted = record {
-  buffers = buffers;
-  others = others-take own k a b c h.others (subst (λ (l : List Run). KeepsOthers l b c) e others);
-  bytes = bytes ∙ h.bytes;
-  counted = omega (arith, h.counted);
+pub gave-last : (own now less : List Run) (a b c : Region) (k n : ℕ) → now ≡ take k own → GaveBuffers own now a b n → GaveBuffers now less b c 1 → GaveBuffers own less a c (n + 1)
+gave-last own now less a b c k n e h one = record {
+  buffers = one.buffers;
+  others = others-take own k a b c h.others (subst (λ (l : List Run). KeepsRest l b c) e one.others);
+  bytes = one.bytes ∙ h.bytes;
+  counted = omega (arith, h.counted, one.counted);
 }

@@ -1,4 +1,5 @@
 pub mod Stream
 pub mod Ring
+pub mod Buffers
 pub mod Writing
 pub mod Ready

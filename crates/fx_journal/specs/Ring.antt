@@ -1,6 +1,6 @@
--- The ring of the journal: the blocks from its start on, those that wait in its queue, and the pool's
--- buffers that hold these.
-use Rattle.std.specs.Prelude.{◌≡◌, ◌≢◌, ℕ, ◌+◌, ◌-◌, ◌*◌, ◌/◌, ◌%◌, ◌^◌, ◌<◌, ◌≤◌, min, List, [], ◌∷◌, ◌++◌, length, drop, All, Option, Some, None, slice_index_or, sum_by, nat_lt, if◌then◌else◌, ◌&&◌}
+-- The ring of the journal: the blocks from its start on, those that wait in its queue, and the
+-- pool's buffers that hold these.
+use Rattle.std.specs.Prelude.{◌≡◌, ◌≢◌, ℕ, ◌+◌, ◌-◌, ◌*◌, ◌/◌, ◌^◌, ◌<◌, ◌≤◌, min, List, [], ◌∷◌, ◌++◌, length, drop, All, Option, Some, None, slice_index_or, sum_by, nat_lt, if◌then◌else◌, ◌&&◌}
 use Rattle.std.specs.List.{flat_map}
 use Rattle.fx_sum.specs.Checksum.{fletch}
 use Rattle.fx_jblock.specs.Block.{body, Holds}
@@ -9,10 +9,11 @@ use Rattle.fx_jblock.specs.declared.TheConstants.{RECORD_BYTES}
 use Rattle.fx_super.specs.declared.superblock.TheConstants.{MIN_RING, MAX_RING}
 use Rattle.fx_pool.specs.Region.{Region, Run, IsSound, IsOut, bytes_of}
 
--- A ring of `size` blocks. `closed` counts the blocks from the start up to the unfinished one, and the
--- last `queued` of these are not written yet. `chain` and `text` are the unfinished block's chain before
--- it and its record bytes. The first `queued` buffers hold the blocks that are not written; each other
--- one is kept for the unfinished block, where it holds bytes, or for a promised one.
+-- A ring of `size` blocks. `closed` counts the blocks from the start up to the unfinished one, and
+-- the last `queued` of these are not written yet. `chain` and `text` are the unfinished block's
+-- chain before it and its record bytes. The first `queued` buffers hold the blocks that are not
+-- written; each other one is kept for the unfinished block, where it holds bytes, or for a promised
+-- one.
 pub record RingState : Type 0 where
   pub start : Start
   pub size : ℕ
@@ -24,7 +25,8 @@ pub record RingState : Type 0 where
   pub queued : ℕ
   pub buffers : List Run
 
--- A closed block that is not written yet: its sequence number, the chain before it, and its record bytes.
+-- A closed block that is not written yet: its sequence number, the chain before it, and its record
+-- bytes.
 pub record Queued : Type 0 where
   pub sequence : ℕ
   pub chain : ℕ
@@ -55,8 +57,8 @@ abbrev pub first_place : RingState → ℕ
 first_place ring = next_place ring - ring.queued
 
 -- the place of the unfinished block, as the beginning of a stream
-abbrev pub place_after : RingState → Start
-place_after ring = record {
+abbrev pub next_start : RingState → Start
+next_start ring = record {
   sequence = number (next_place ring);
   chain = ring.chain;
   floor = ring.epoch;
@@ -70,8 +72,8 @@ unfinished ring piece =
 abbrev pub chain_after : ℕ → Queued → ℕ
 chain_after epoch q = fletch q.chain (body q.sequence epoch q.text)
 
--- The ring after its unfinished block is closed with these further bytes. Where it held none, the block
--- was a promised one.
+-- The ring after its unfinished block is closed with these further bytes. Where it held none, the
+-- block was a promised one.
 abbrev pub closes : RingState → List ℕ → RingState
 closes ring piece = record ring {
   closed = ring.closed + 1;
@@ -106,7 +108,8 @@ next_block ring before =
 abbrev pub without_first : RingState → RingState
 without_first ring = record ring { queued = ring.queued - 1; buffers = drop 1 ring.buffers }
 
--- How many blocks lie before the sequence number, and how many of the queue's blocks are among them.
+-- How many blocks lie before the sequence number, and how many of the queue's blocks are among
+-- them.
 abbrev pub freed : RingState → ℕ → ℕ
 freed ring sequence = sequence - ring.start.sequence
 
@@ -147,19 +150,19 @@ abbrev pub IsOther : List Run → Run → Type 0
 IsOther own run = (i : ℕ) → i < length own → run.start ≢ (run_at own i).start
 
 -- Each buffer that is out and none of these stays out, with its bytes.
-pub record KeepsOthers (own : List Run) (old new : Region) : Type 0 where
+pub record KeepsRest (own : List Run) (old new : Region) : Type 0 where
   pub order : new.order ≡ old.order
   pub out : (run : Run) → IsOut old run → IsOther own run → IsOut new run
   pub bytes : (run : Run) → IsOut old run → IsOther own run → bytes_of new run ≡ bytes_of old run
 
--- What every call of a ring keeps: its size and its epoch, that it is a ring whose buffers are its own,
--- and the buffers of others.
+-- What every call of a ring keeps: its size and its epoch, that it is a ring whose buffers are its
+-- own, and the buffers of others.
 pub record KeepsRing (old new : RingState) (before after : Region) : Type 0 where
   pub size : new.size ≡ old.size
   pub epoch : new.epoch ≡ old.epoch
   pub ring : IsRing new
   pub buffers : KeepsBuffers new.buffers after
-  pub others : KeepsOthers old.buffers before after
+  pub others : KeepsRest old.buffers before after
 
 -- how many blocks lie in buffers that are out
 abbrev pub run_blocks : Option ℕ → ℕ
@@ -169,8 +172,28 @@ run_blocks (Some order) = 2 ^ order
 abbrev pub blocks_out : Region → ℕ
 blocks_out region = sum_by run_blocks region.out
 
--- Each block of the queue has the number of its place, and its chain is the one after the block before;
--- the last one's is the chain before the unfinished block.
+-- So many blocks more are promised, and their buffers were taken out of the pool.
+pub record Promises (old new : RingState) (before after : Region) (count : ℕ) : Type 0 where
+  pub ring : new ≡ record old { promised = old.promised + count; buffers = new.buffers }
+  pub taken : blocks_out after ≡ blocks_out before + count
+
+-- So many blocks fewer are promised, and their buffers were given back.
+pub record Cancels (old new : RingState) (before after : Region) (count : ℕ) : Type 0 where
+  pub ring : new ≡ record old { promised = old.promised - count; buffers = new.buffers }
+  pub given : blocks_out after + count ≡ blocks_out before
+
+-- So many record bytes were appended: what they took of the promise, and what they added to the
+-- ring and to its queue. Buffers that they did not need were given back.
+pub record AppendCounts (old new : RingState) (before after : Region) (bytes : ℕ) : Type 0 where
+  pub promised : new.promised ≡ old.promised - want bytes
+  pub counted : RECORD_BYTES * new.closed + length new.text
+      ≡ RECORD_BYTES * old.closed + length old.text + bytes
+  pub queued : new.queued + old.closed ≡ old.queued + new.closed
+  pub start : new.start ≡ old.start
+  pub given : blocks_out after + length old.buffers ≡ blocks_out before + length new.buffers
+
+-- Each block of the queue has the number of its place, and its chain is the one after the block
+-- before; the last one's is the chain before the unfinished block.
 abbrev pub first_chain : List Queued → ℕ → ℕ
 first_chain [] chain = chain
 first_chain (q ∷ _) chain = q.chain
@@ -201,8 +224,9 @@ texts blocks = flat_map (λ (q : Queued). q.text) blocks
 abbrev pub IsFilled : Queued → Type 0
 IsFilled q = length q.text ≡ RECORD_BYTES
 
--- The record bytes were appended: full blocks were closed, which go on from the chain before, and they and
--- what is left in the unfinished block are what that held before and then the record bytes.
+-- The record bytes were appended: full blocks were closed, which go on from the chain before, and
+-- they and what is left in the unfinished block are what that held before and then the record
+-- bytes.
 pub record Appended (old new : RingState) (region : Region) (queue : List Queued)
     (bytes : List ℕ) : Type 0 where
   pub blocks : List Queued

@@ -66,7 +66,16 @@ IsSeries generation start [] next = next ≡ start
 IsSeries generation start (block ∷ blocks) next =
     MayFollow generation start block × IsSeries generation (place_after start block) blocks next
 
--- What is found in the bytes for a place: the block that stands there, with the place after it, or none.
+-- What is read, whether the disk tells its bytes or not: blocks that may follow each other from the
+-- start to the place that is next, at most as many as the ring has.
+pub record MayBeStream (ring generation : ℕ) (start : Start) (blocks : List StreamBlock)
+    (place : Start) : Type 0 where
+  pub series : IsSeries generation start blocks place
+  pub few : length blocks ≤ ring
+  pub next : place.sequence ≡ start.sequence + length blocks
+
+-- What is found in the bytes for a place: the block that stands there, with the place after it, or
+-- none.
 abbrev pub IsNext : List ℕ → ℕ → Start → Option (StreamBlock × Start) → Type 0
 IsNext bytes generation place None = (block : StreamBlock) → StandsAs bytes generation place block →
     ⊥

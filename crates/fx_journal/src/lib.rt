@@ -1,5 +1,5 @@
-//! The journal: a ring of blocks of a disk, the stream of journal blocks that is read from it, and the
-//! queue of those that are not written yet.
+//! The journal: a ring of blocks of a disk, the stream of journal blocks that is read from it, and
+//! the queue of those that are not written yet.
 #![tactic(auto)]
 
 pub mod laws;

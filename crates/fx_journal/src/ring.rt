@@ -1,6 +1,6 @@
 //! The ring: its reservations, and the queue of closed blocks that are not written yet.
-ghost use Rattle.std.specs.Prelude.{◌≡◌, ◌≢◌, ◌↔◌, ℕ, ◌+◌, ◌-◌, ◌*◌, ◌/◌, ◌%◌, ◌^◌, ◌<◌, ◌≤◌, min, List, [], ◌∷◌, ◌++◌, length, take, drop, Some, None, Ok, Err, IsErr, IfOk, IfErr, OnOk, OnErr, is_ok};
-ghost use Rattle.fx_disk.specs.Seen.{HasWritten, HasCalled};
+ghost use Rattle.std.specs.Prelude.{◌≡◌, ◌↔◌, ℕ, ◌+◌, ◌-◌, ◌/◌, ◌^◌, ◌<◌, ◌≤◌, List, [], ◌∷◌, ◌++◌, length, drop, Some, None, Ok, Err, IsErr, IfOk, IfErr, OnOk, OnErr, is_ok};
+ghost use Rattle.fx_disk.specs.Seen.{HasCalled};
 ghost use Rattle.fx_pool.specs.Region.{IsSound};
 ghost use Rattle.fx_journal.specs.Ring.{begun, want};
 
@@ -27,9 +27,10 @@ pub enum Wrote {
 /// The ring of the journal's blocks, from its start through the unfinished block.
 ///
 /// Records are appended to the unfinished block, in the ring's own memory. A block that is full, or
-/// padded, is closed: it is packed once into a buffer of the pool and waits there until it is written.
-/// Block `s` stands in disk block `2 + s mod R`, where `R` is the ring's size, and keeps that place until
-/// the blocks before a later one are freed. A ring has no `Drop`: it is spent by [`Ring::close`].
+/// padded, is closed: it is packed once into a buffer of the pool and waits there until it is
+/// written. Block `s` stands in disk block `2 + s mod R`, where `R` is the ring's size, and keeps
+/// that place until the blocks before a later one are freed. A ring has no `Drop`: it is spent by
+/// [`Ring::close`].
 ///
 /// Sequence numbers stand still at `u64::MAX`.
 pub struct Ring {
@@ -95,12 +96,12 @@ fn begun_of(text: &[u8]) -> u32
 }
 
 impl Ring {
-    ghost use Rattle.fx_journal.specs.Ring.{RingState, Queued, IsRing, KeepsBuffers, KeepsOthers, KeepsRing, HoldsQueue, Appended, blocks_out, want, live, begun, number, next_place, place_after, closes, unfinished, padded, padding, next_block, without_first, without_before, freed, freed_queued};
-    ghost use Rattle.fx_journal.specs.Writing.{block_at, first_bytes, wrote, counts};
+    ghost use Rattle.fx_journal.specs.Ring.{RingState, Queued, IsRing, KeepsBuffers, KeepsRest, KeepsRing, Promises, Cancels, AppendCounts, HoldsQueue, Appended, blocks_out, want, live, begun, number, next_place, next_start, closes, unfinished, padded, padding, next_block, without_before, freed_queued};
+    ghost use Rattle.fx_journal.specs.Writing.{WritesFirst, wrote, counts};
 
-    /// The ring of `ring` blocks whose stream begins at `start` and goes on at `next`, which is the place
-    /// `closed` blocks later. No block is queued, and nothing is promised. New blocks have this epoch.
-    /// Takes all the memory that the ring will need.
+    /// The ring of `ring` blocks whose stream begins at `start` and goes on at `next`, which is the
+    /// place `closed` blocks later. No block is queued, and nothing is promised. New blocks have
+    /// this epoch. Takes all the memory that the ring will need.
     pub fn at(
         alloc: Global,
         start: Start,
@@ -155,8 +156,8 @@ impl Ring {
         self.closed + 1 + begun_of(&self.text)
     }
 
-    /// Promises the blocks that so many record bytes want, and takes them out of the pool. The pool has
-    /// them. Takes no memory; costs the blocks.
+    /// Promises the blocks that so many record bytes want, and takes them out of the pool. The pool
+    /// has them. Takes no memory; costs the blocks.
     pub fn reserve(&mut self, pool: &mut Pool, bytes: u32) -> Result<(), Full>
         requires buffers { KeepsBuffers self.old.buffers pool.old }
         requires blocks { blocks_out pool.old + want bytes ≤ 2 ^ pool.old.order }
@@ -164,11 +165,8 @@ impl Ring {
             ↔ (self.old.size < live self.old + self.old.promised + want bytes + 1) }
         ensures counts { IfErr result (λ full. full ≡ counts self.old bytes) }
         ensures refused { OnErr result ((self.new ≡ self.old) × (pool.new ≡ pool.old)) }
-        ensures promised { OnOk result (self.new ≡ record self.old {
-          promised = self.old.promised + want bytes;
-          buffers = self.new.buffers;
-        }) }
-        ensures taken { OnOk result (blocks_out pool.new ≡ blocks_out pool.old + want bytes) }
+        ensures promised { OnOk result
+            (Promises self.old self.new pool.old pool.new (want bytes)) }
         ensures queue { (queue : List Queued) → HoldsQueue self.old pool.old queue
             → HoldsQueue self.new pool.new queue }
         ensures kept { KeepsRing self.old self.new pool.old pool.new }
@@ -187,16 +185,12 @@ impl Ring {
         Ok(())
     }
 
-    /// Gives the blocks that so many record bytes want back, of those that are promised. Takes no memory;
-    /// costs the blocks.
+    /// Gives the blocks that so many record bytes want back, of those that are promised. Takes no
+    /// memory; costs the blocks.
     pub fn cancel(&mut self, pool: &mut Pool, bytes: u32)
         requires promised { want bytes ≤ self.old.promised }
         requires buffers { KeepsBuffers self.old.buffers pool.old }
-        ensures promised { self.new ≡ record self.old {
-          promised = self.old.promised - want bytes;
-          buffers = self.new.buffers;
-        } }
-        ensures given { blocks_out pool.new + want bytes ≡ blocks_out pool.old }
+        ensures cancelled { Cancels self.old self.new pool.old pool.new (want bytes) }
         ensures queue { (queue : List Queued) → HoldsQueue self.old pool.old queue
             → HoldsQueue self.new pool.new queue }
         ensures kept { KeepsRing self.old self.new pool.old pool.new }
@@ -209,11 +203,7 @@ impl Ring {
     fn give_promised(&mut self, pool: &mut Pool, count: u32)
         requires promised { count ≤ self.old.promised }
         requires buffers { KeepsBuffers self.old.buffers pool.old }
-        ensures promised { self.new ≡ record self.old {
-          promised = self.old.promised - count;
-          buffers = self.new.buffers;
-        } }
-        ensures given { blocks_out pool.new + count ≡ blocks_out pool.old }
+        ensures cancelled { Cancels self.old self.new pool.old pool.new count }
         ensures queue { (queue : List Queued) → HoldsQueue self.old pool.old queue
             → HoldsQueue self.new pool.new queue }
         ensures kept { KeepsRing self.old self.new pool.old pool.new }
@@ -222,21 +212,16 @@ impl Ring {
         self.promised -= count;
     }
 
-    /// Appends a record's bytes, and takes the blocks that they want from those that are promised. A block
-    /// that is full is closed and queued. A promised block that the bytes do not need, since the unfinished
-    /// block had room, goes back to the pool. Takes no memory; costs the bytes.
+    /// Appends a record's bytes, and takes the blocks that they want from those that are promised.
+    /// A block that is full is closed and queued. A promised block that the bytes do not need,
+    /// since the unfinished block had room, goes back to the pool. Takes no memory; costs the
+    /// bytes.
     pub fn append(&mut self, pool: &mut Pool, rec: &[u8])
         requires promised { want (length rec.now) ≤ self.old.promised }
         requires buffers { KeepsBuffers self.old.buffers pool.old }
         ensures queue { (queue : List Queued) → HoldsQueue self.old pool.old queue
             → Appended self.old self.new pool.new queue rec.now }
-        ensures promised { self.new.promised ≡ self.old.promised - want (length rec.now) }
-        ensures counted { RECORD_BYTES * self.new.closed + length self.new.text
-            ≡ RECORD_BYTES * self.old.closed + length self.old.text + length rec.now }
-        ensures queued { self.new.queued + self.old.closed ≡ self.old.queued + self.new.closed }
-        ensures start { self.new.start ≡ self.old.start }
-        ensures given { blocks_out pool.new + length self.old.buffers
-            ≡ blocks_out pool.old + length self.new.buffers }
+        ensures counts { AppendCounts self.old self.new pool.old pool.new (length rec.now) }
         ensures kept { KeepsRing self.old self.new pool.old pool.new }
     {
         let left = self.promised - want_of(rec.len()) as u32;
@@ -300,13 +285,13 @@ impl Ring {
         self.start.sequence.saturating_add(u64::from(self.closed))
     }
 
-    /// Closes the unfinished block with zeros, if it holds bytes, and answers the place after it, with the
-    /// ring's epoch as floor. Takes no memory; costs one block.
+    /// Closes the unfinished block with zeros, if it holds bytes, and answers the place after it,
+    /// with the ring's epoch as floor. Takes no memory; costs one block.
     pub fn pad(&mut self, pool: &mut Pool) -> Start
         requires buffers { KeepsBuffers self.old.buffers pool.old }
         ensures padded { self.new ≡ padded self.old }
         ensures live { live self.new ≡ live self.old }
-        ensures place { result ≡ place_after self.new }
+        ensures place { result ≡ next_start self.new }
         ensures queue { (queue : List Queued) → HoldsQueue self.old pool.old queue
             → HoldsQueue self.new pool.new (queue ++ padding self.old) }
         ensures out { pool.new.out ≡ pool.old.out }
@@ -334,9 +319,9 @@ impl Ring {
         None
     }
 
-    /// Writes the first closed block that is not written yet, if its sequence number lies below `before`,
-    /// to its place on the disk, and gives its buffer back. After a fault the block stays queued. One write
-    /// where there is such a block, else none. Takes no memory; costs one block.
+    /// Writes the first closed block that is not written yet, if its sequence number lies below
+    /// `before`, to its place on the disk, and gives its buffer back. After a fault the block stays
+    /// queued. One write where there is such a block, else none. Takes no memory; costs one block.
     pub fn write_next<D: Disk>(
         &mut self,
         pool: &mut Pool,
@@ -350,16 +335,9 @@ impl Ring {
             × (self.new ≡ self.old) × (pool.new ≡ pool.old) × (disk.new ≡ disk.old) }
 
         // Where there is such a block, its bytes are written to its place by one call.
-        ensures made { (sequence : ℕ) (queue : List Queued) →
-            next_block self.old before ≡ Some sequence
-            → HoldsQueue self.old pool.old queue → HasWritten (D.seen disk.old) (D.seen disk.new)
-            (block_at self.old sequence) (first_bytes self.old.epoch queue) (is_ok result) }
-        ensures written { (sequence : ℕ) → next_block self.old before ≡ Some sequence
-            → OnOk result (self.new ≡ without_first self.old) }
-        ensures queue { (sequence : ℕ) (queue : List Queued) →
-            next_block self.old before ≡ Some sequence
-            → HoldsQueue self.old pool.old queue →
-            OnOk result (HoldsQueue self.new pool.new (drop 1 queue)) }
+        ensures first { (sequence : ℕ) → next_block self.old before ≡ Some sequence
+            → WritesFirst self.old self.new pool.old pool.new
+            (D.seen disk.old) (D.seen disk.new) sequence result }
 
         // A fault is the disk's, and leaves all else as it was.
         ensures fault { OnErr result ((self.new ≡ self.old) × (pool.new ≡ pool.old)) }
@@ -384,9 +362,9 @@ impl Ring {
         Ok(Wrote::Block(sequence))
     }
 
-    /// Frees the blocks before `sequence`: they leave the ring and the queue, and their places may be used
-    /// again. The start's sequence is then `sequence`; its chain and floor stay. Takes no memory; costs the
-    /// blocks of the queue that leave.
+    /// Frees the blocks before `sequence`: they leave the ring and the queue, and their places may
+    /// be used again. The start's sequence is then `sequence`; its chain and floor stay. Takes no
+    /// memory; costs the blocks of the queue that leave.
     pub fn free_before(&mut self, pool: &mut Pool, sequence: u64)
         requires low { self.old.start.sequence ≤ sequence }
         requires high { sequence ≤ number (next_place self.old) }
@@ -410,7 +388,7 @@ impl Ring {
         requires buffers { KeepsBuffers self.buffers pool.old }
         ensures given { blocks_out pool.new + length self.buffers ≡ blocks_out pool.old }
         ensures sound { IsSound pool.new }
-        ensures others { KeepsOthers self.buffers pool.old pool.new }
+        ensures others { KeepsRest self.buffers pool.old pool.new }
     {
         let Ring {
             start: _,

@@ -1,12 +1,14 @@
 //! The buffers of the ring: one block each, in one queue.
-ghost use Rattle.std.specs.Prelude.{is_ok, ◌≡◌, ◌≢◌, ℕ, ◌+◌, ◌-◌, ◌*◌, ◌^◌, ◌<◌, ◌≤◌, List, ◌++◌, ◌∷◌, length, take, drop};
+ghost use Rattle.std.specs.Prelude.{is_ok, ◌≡◌, ◌+◌, ◌-◌, ◌^◌, ◌<◌, ◌≤◌, length, take, drop};
 ghost use Rattle.std.specs.VecDeque.{deque_len, deque_capacity};
 ghost use Rattle.fx_sum.specs.Checksum.{fletch};
 ghost use Rattle.fx_disk.specs.Seen.{HasWritten};
 ghost use Rattle.fx_jblock.specs.Block.{body, Holds};
-ghost use Rattle.fx_pool.specs.Region.{Run, IsOut, IsSound, bytes_of};
-ghost use Rattle.fx_journal.specs.Ring.{KeepsBuffers, KeepsOthers, IsOther, blocks_out};
+ghost use Rattle.fx_pool.specs.Region.{IsOut, IsSound, bytes_of};
+ghost use Rattle.fx_journal.specs.Ring.{KeepsBuffers, blocks_out};
+ghost use Rattle.fx_journal.specs.Buffers.{TookBuffers, GaveBuffers, WroteBuffer};
 
+use fx_base::BLOCK_BYTES;
 use fx_disk::{Disk, DiskFailed};
 use fx_jblock::{RECORD_BYTES, pack};
 use fx_pool::{Buf, Pool, laws};
@@ -17,14 +19,8 @@ pub(crate) fn take_blocks(pool: &mut Pool, buffers: &mut VecDeque<Buf>, count: u
     requires buffers { KeepsBuffers buffers.old.items pool.old }
     requires room { deque_len buffers.old + count ≤ deque_capacity buffers.old }
     requires blocks { blocks_out pool.old + count ≤ 2 ^ pool.old.order }
-    ensures buffers { KeepsBuffers buffers.new.items pool.new }
-    ensures kept { take (length buffers.old.items) buffers.new.items ≡ buffers.old.items }
-    ensures len { length buffers.new.items ≡ length buffers.old.items + count }
+    ensures took { TookBuffers buffers.old.items buffers.new.items pool.old pool.new count }
     ensures capacity { deque_capacity buffers.old ≤ deque_capacity buffers.new }
-    ensures others { (run : Run) → IsOut pool.old run → IsOut pool.new run }
-    ensures bytes { pool.new.bytes ≡ pool.old.bytes }
-    ensures order { pool.new.order ≡ pool.old.order }
-    ensures counted { blocks_out pool.new ≡ blocks_out pool.old + count }
 {
     for _ in 0..count {
         take_block(pool, buffers);
@@ -35,14 +31,8 @@ fn take_block(pool: &mut Pool, buffers: &mut VecDeque<Buf>)
     requires buffers { KeepsBuffers buffers.old.items pool.old }
     requires room { deque_len buffers.old < deque_capacity buffers.old }
     requires blocks { blocks_out pool.old < 2 ^ pool.old.order }
-    ensures buffers { KeepsBuffers buffers.new.items pool.new }
-    ensures kept { take (length buffers.old.items) buffers.new.items ≡ buffers.old.items }
-    ensures len { length buffers.new.items ≡ length buffers.old.items + 1 }
+    ensures took { TookBuffers buffers.old.items buffers.new.items pool.old pool.new 1 }
     ensures capacity { deque_capacity buffers.old ≤ deque_capacity buffers.new }
-    ensures others { (run : Run) → IsOut pool.old run → IsOut pool.new run }
-    ensures bytes { pool.new.bytes ≡ pool.old.bytes }
-    ensures order { pool.new.order ≡ pool.old.order }
-    ensures counted { blocks_out pool.new ≡ blocks_out pool.old + 1 }
 {
     let Some(buffer) = pool.take(0) else {
         unreachable!();
@@ -57,12 +47,9 @@ fn take_block(pool: &mut Pool, buffers: &mut VecDeque<Buf>)
 pub(crate) fn give_first(pool: &mut Pool, buffers: &mut VecDeque<Buf>, count: u32)
     requires buffers { KeepsBuffers buffers.old.items pool.old }
     requires enough { count ≤ length buffers.old.items }
-    ensures buffers { KeepsBuffers buffers.new.items pool.new }
+    ensures gave { GaveBuffers buffers.old.items buffers.new.items pool.old pool.new count }
     ensures left { buffers.new.items ≡ drop count buffers.old.items }
     ensures capacity { deque_capacity buffers.new ≡ deque_capacity buffers.old }
-    ensures others { KeepsOthers buffers.old.items pool.old pool.new }
-    ensures bytes { pool.new.bytes ≡ pool.old.bytes }
-    ensures counted { blocks_out pool.new + count ≡ blocks_out pool.old }
 {
     for _ in 0..count {
         give_front(pool, buffers);
@@ -72,12 +59,9 @@ pub(crate) fn give_first(pool: &mut Pool, buffers: &mut VecDeque<Buf>, count: u3
 fn give_front(pool: &mut Pool, buffers: &mut VecDeque<Buf>)
     requires buffers { KeepsBuffers buffers.old.items pool.old }
     requires enough { 0 < length buffers.old.items }
-    ensures buffers { KeepsBuffers buffers.new.items pool.new }
+    ensures gave { GaveBuffers buffers.old.items buffers.new.items pool.old pool.new 1 }
     ensures left { buffers.new.items ≡ drop 1 buffers.old.items }
     ensures capacity { deque_capacity buffers.new ≡ deque_capacity buffers.old }
-    ensures others { KeepsOthers buffers.old.items pool.old pool.new }
-    ensures bytes { pool.new.bytes ≡ pool.old.bytes }
-    ensures counted { blocks_out pool.new + 1 ≡ blocks_out pool.old }
 {
     let Some(buffer) = buffers.pop_front() else {
         unreachable!();
@@ -89,12 +73,9 @@ fn give_front(pool: &mut Pool, buffers: &mut VecDeque<Buf>)
 pub(crate) fn give_last(pool: &mut Pool, buffers: &mut VecDeque<Buf>, count: u32)
     requires buffers { KeepsBuffers buffers.old.items pool.old }
     requires enough { count ≤ length buffers.old.items }
-    ensures buffers { KeepsBuffers buffers.new.items pool.new }
+    ensures gave { GaveBuffers buffers.old.items buffers.new.items pool.old pool.new count }
     ensures left { buffers.new.items ≡ take (length buffers.old.items - count) buffers.old.items }
     ensures capacity { deque_capacity buffers.new ≡ deque_capacity buffers.old }
-    ensures others { KeepsOthers buffers.old.items pool.old pool.new }
-    ensures bytes { pool.new.bytes ≡ pool.old.bytes }
-    ensures counted { blocks_out pool.new + count ≡ blocks_out pool.old }
 {
     for _ in 0..count {
         give_back(pool, buffers);
@@ -104,12 +85,9 @@ pub(crate) fn give_last(pool: &mut Pool, buffers: &mut VecDeque<Buf>, count: u32
 fn give_back(pool: &mut Pool, buffers: &mut VecDeque<Buf>)
     requires buffers { KeepsBuffers buffers.old.items pool.old }
     requires enough { 0 < length buffers.old.items }
-    ensures buffers { KeepsBuffers buffers.new.items pool.new }
+    ensures gave { GaveBuffers buffers.old.items buffers.new.items pool.old pool.new 1 }
     ensures left { buffers.new.items ≡ take (length buffers.old.items - 1) buffers.old.items }
     ensures capacity { deque_capacity buffers.new ≡ deque_capacity buffers.old }
-    ensures others { KeepsOthers buffers.old.items pool.old pool.new }
-    ensures bytes { pool.new.bytes ≡ pool.old.bytes }
-    ensures counted { blocks_out pool.new + 1 ≡ blocks_out pool.old }
 {
     let Some(buffer) = buffers.pop_back() else {
         unreachable!();
@@ -134,14 +112,10 @@ pub(crate) fn pack_into(
     requires begun { 1 ≤ epoch }
     ensures chain { result ≡ fletch chain (body sequence epoch text.now) }
     ensures holds { Holds (bytes_of pool.new buffer.now) sequence epoch chain text.now }
-    ensures others { (run : Run) → IsOut pool.old run → run.start ≢ buffer.now.start
-        → bytes_of pool.new run ≡ bytes_of pool.old run }
-    ensures out { pool.new.out ≡ pool.old.out }
-    ensures order { pool.new.order ≡ pool.old.order }
-    ensures sound { IsSound pool.new }
+    ensures wrote { WroteBuffer buffer.now pool.old pool.new }
 {
     laws::written_buffers();
-    let Some(block) = pool.bytes_mut(buffer).as_mut_array::<4096>() else {
+    let Some(block) = pool.bytes_mut(buffer).as_mut_array::<BLOCK_BYTES>() else {
         unreachable!();
     };
     pack(sequence, epoch, chain, text, block)
@@ -160,7 +134,7 @@ pub(crate) fn write_buffer<D: Disk>(
     ensures written { HasWritten (D.seen disk.old) (D.seen disk.new)
         at (bytes_of pool.now buffer.now) (is_ok result) }
 {
-    let Some(block) = pool.bytes(buffer).as_array::<4096>() else {
+    let Some(block) = pool.bytes(buffer).as_array::<BLOCK_BYTES>() else {
         unreachable!();
     };
     disk.write(at, block)

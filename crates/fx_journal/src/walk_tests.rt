@@ -123,8 +123,8 @@ fn tear(block: Option<&mut [u8; 4096]>, at: usize) {
     }
 }
 
-/// The same where the third block was cut at this byte: zeros stand from there on. None where they stood
-/// there before.
+/// The same where the third block was cut at this byte: zeros stand from there on. None where they
+/// stood there before.
 fn epochs_cut(alloc: Global, at: usize) -> Result<Option<Vec<u8>>, Fail> {
     let mut blocks = zeros(alloc, 6)?;
     put_all(&mut blocks, "2222");

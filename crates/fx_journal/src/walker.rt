@@ -3,10 +3,11 @@ ghost use Rattle.std.specs.Prelude.{◌≡◌, ◌≢◌, ◌+◌, ◌-◌, ◌<
 ghost use Rattle.std.specs.Option.{IfSome};
 ghost use Rattle.fx_base.specs.Causes.{Rose};
 ghost use Rattle.fx_disk.specs.Seen.{HasOnlyRead};
-ghost use Rattle.fx_journal.specs.Stream.{IsStream, IsSeries, IsNext};
+ghost use Rattle.fx_journal.specs.Stream.{IsStream, MayBeStream, IsNext};
 
 use crate::place::block_number;
 use crate::stream::{Blocks, Stream, StreamBlock, WalkFault};
+use fx_base::BLOCK_BYTES;
 use fx_disk::Disk;
 use fx_item::Bytes;
 use fx_jblock::{Fit, HEADER_BYTES, Start, fits};
@@ -16,9 +17,9 @@ use std::alloc::{AllocError, Global};
 /// Reads the stream from the start on: the longest list of at most `ring` blocks that continue each
 /// other, from the block of the start's sequence on. The ring is the disk's blocks 2 to `ring + 1`.
 ///
-/// `Device` comes only where the disk's count of faults rose, and nothing else comes there. The disk is
-/// only read: each block of the stream once, and the one after it where the ring has it. It takes the
-/// memory of the record bytes, and the time of one pass over the blocks that are read.
+/// `Device` comes only where the disk's count of faults rose, and nothing else comes there. The
+/// disk is only read: each block of the stream once, and the one after it where the ring has it. It
+/// takes the memory of the record bytes, and the time of one pass over the blocks that are read.
 pub fn walk<D: Disk>(
     alloc: Global,
     disk: &mut D,
@@ -34,9 +35,7 @@ pub fn walk<D: Disk>(
         IsStream r.contents ring generation start s.blocks s.next)) }
 
     // Whether it tells or not, the blocks follow each other from the start to the next place.
-    ensures series { IfOk result (λ s. IsSeries generation start s.blocks s.next) }
-    ensures few { IfOk result (λ s. length s.blocks ≤ ring) }
-    ensures next { IfOk result (λ s. s.next.sequence ≡ start.sequence + length s.blocks) }
+    ensures read { IfOk result (λ s. MayBeStream ring generation start s.blocks s.next) }
 
     // The blocks of the stream are read once, and the one after it unless the ring is full.
     ensures reads { IfOk result (λ s.
@@ -50,7 +49,7 @@ pub fn walk<D: Disk>(
 {
     let mut items = Vec::new(alloc);
     let mut next = start;
-    let mut block = [0u8; 4096];
+    let mut block = [0u8; BLOCK_BYTES];
     'reading: while items.len() < ring as usize {
         let Ok(()) = disk.read(block_number(ring, next.sequence), &mut block) else {
             return Err(WalkFault::Device);
@@ -82,7 +81,7 @@ fn keep(items: &mut Vec<StreamBlock>, block: StreamBlock) -> Result<(), AllocErr
 /// The block as the one at this place of the stream, with the place after it, where it is that one.
 fn take_block(
     alloc: Global,
-    block: &[u8; 4096],
+    block: &[u8; BLOCK_BYTES],
     place: Start,
     generation: u64,
 ) -> Result<Option<(StreamBlock, Start)>, AllocError>

@@ -11,7 +11,8 @@ use Rattle.fx_log.specs.Chosen.{ChoosesSuper, start_of}
 abbrev pub PassesForSuper : List ℕ → Type 0
 PassesForSuper block = ((f : Fields) × IsSuper block f) ⊎ ((version : ℕ) × IsVersion block version)
 
--- Where the block is loose and passes for a superblock, it holds bytes that it once held or was written with.
+-- Where the block is loose and passes for a superblock, it holds bytes that it once held or was
+-- written with.
 abbrev pub IsNotByChance : Cell → List ℕ → Type 0
 IsNotByChance cell block = cell.loose ≡ true → PassesForSuper block →
     Contains (candidates cell) block
@@ -25,17 +26,17 @@ abbrev pub IsOld : Cell → Cell → List ℕ → Type 0
 IsOld before now bytes = (bytes ≡ before.bytes)
     × (Contains (drop (length before.written) now.written) bytes → ⊥)
 
--- The bytes of a journal block of this epoch are not there by chance: where the block is loose it holds
--- bytes that it once held or was written with, and bytes from before have no epoch above the generation
--- of that time.
+-- The bytes of a journal block of this epoch are not there by chance: where the block is loose it
+-- holds bytes that it once held or was written with, and bytes from before have no epoch above the
+-- generation of that time.
 pub record IsTrueBlock (before now : Cell) (generation : ℕ) (bytes : List ℕ) (epoch : ℕ)
     : Type 0 where
   pub torn : now.loose ≡ true → Contains (candidates now) bytes
   pub old : IsOld before now bytes → epoch ≤ generation
 
--- No torn block, and none from before the cells `before`, makes sense by chance: neither as a superblock
--- nor as a block of the stream. The generation is the one that was chosen before. A block of the stream is
--- one that continues a run from the chosen superblock's start.
+-- No torn block, and none from before the cells `before`, makes sense by chance: neither as a
+-- superblock nor as a block of the stream. The generation is the one that was chosen before. A
+-- block of the stream is one that continues a run from the chosen superblock's start.
 pub record NotByChance (before now : ℕ → Cell) (generation : ℕ) (image : List (List ℕ))
     : Type 0 where
   pub supers : HasTrueSupers now image

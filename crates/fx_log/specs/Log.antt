@@ -72,8 +72,8 @@ pub record IsWrittenOut (tail : LogTail) : Type 0 where
   pub written : tail.written ≡ length tail.blocks
   pub text : tail.text ≡ []
 
--- The bytes were appended to the record bytes: these blocks were closed, and left this chain and this
--- unfinished block.
+-- The bytes were appended to the record bytes: these blocks were closed, and left this chain and
+-- this unfinished block.
 pub record Appends (log : Log) (bytes : List ℕ) (closed : List Queued) (chain : ℕ) (text : List ℕ)
     : Type 0 where
   pub blocks : AreClosed log.head.super log.head.read log.head.place
@@ -99,8 +99,8 @@ pub record IsLog (log : Log) : Type 0 where
   pub head : IsHead log.size log.head.super log.head.read log.head.place
   pub tail : IsTail log.head log.tail
 
--- The ring goes on from the blocks that were read, under the next generation. Its queue is the closed
--- blocks that are not written yet.
+-- The ring goes on from the blocks that were read, under the next generation. Its queue is the
+-- closed blocks that are not written yet.
 pub record IsRingOf (log : Log) (ring : RingState) (region : Region) : Type 0 where
   pub sequence : ring.start.sequence ≡ log.head.super.sequence
   pub size : ring.size ≡ log.head.super.ring
@@ -112,8 +112,9 @@ pub record IsRingOf (log : Log) (ring : RingState) (region : Region) : Type 0 wh
 
 -- ---- what the disk has of it
 
--- This record of the disk has the log's blocks, as far as they are written, and at every moment since the
--- log was read every image left has the superblock that was read, or that of the next generation.
+-- This record of the disk has the log's blocks, as far as they are written, and at every moment
+-- since the log was read every image left has the superblock that was read, or that of the next
+-- generation.
 pub record HasLog (log : Log) (r : DiskRecord) : Type 0 where
   pub size : length r.entry ≡ log.size
   pub since : log.from ≤ length r.calls

@@ -1,4 +1,5 @@
--- The ring of a mounted disk: the blocks that its journal began with, and those that were closed since.
+-- The ring of a mounted disk: the blocks that its journal began with, and those that were closed
+-- since.
 use Rattle.std.specs.Prelude.{◌≡◌, ℕ, ◌+◌, ◌^◌, ◌≤◌, ◌<◌, false, Some, List, [], ◌∷◌, ◌++◌, All, Contains, length, take, drop, map, slice_get}
 use Rattle.fx_disk.specs.Record.{DiskRecord, Cell, candidates, cell_after, cell_now}
 use Rattle.fx_disk.specs.Settled.{IsGoodWrite}
@@ -12,8 +13,8 @@ use Rattle.fx_journal.specs.Ring.{Queued, IsLinked, first_chain}
 use Rattle.fx_log.specs.Chosen.{ChoosesSuper, start_of}
 use Rattle.fx_disk.specs.Began.{BeganAs}
 
--- The disk began as an image in which this superblock is chosen, that of a disk of its size. These blocks
--- are the stream then, and `place` is the one after them.
+-- The disk began as an image in which this superblock is chosen, that of a disk of its size. These
+-- blocks are the stream then, and `place` is the one after them.
 pub record BeganWith (r : DiskRecord) (from : ℕ) (f : Fields) (image : List (List ℕ))
     (read : List StreamBlock) (place : Start) : Type 0 where
   pub begins : BeganAs r from image
@@ -40,9 +41,9 @@ pub record HasRecords (q : Queued) : Type 0 where
   pub filled : 1 ≤ length q.text
   pub room : length q.text ≤ RECORD_BYTES
 
--- The blocks were closed after those that were read: they follow each other from the place on, under the
--- next generation, and the ring has a place for each. The chain is the one after them. Their numbers lie
--- below those where numbers stand still.
+-- The blocks were closed after those that were read: they follow each other from the place on,
+-- under the next generation, and the ring has a place for each. The chain is the one after them.
+-- Their numbers lie below those where numbers stand still.
 pub record AreClosed (f : Fields) (read : List StreamBlock) (place : Start) (blocks : List Queued)
     (chain : ℕ) : Type 0 where
   pub records : All HasRecords blocks
@@ -51,8 +52,8 @@ pub record AreClosed (f : Fields) (read : List StreamBlock) (place : Start) (blo
   pub room : length read + length blocks ≤ f.ring
   pub low : place.sequence + f.ring < 2 ^ 64
 
--- Since the cell `before` the block was written with no other bytes than these, and it may hold these or
--- what it held before.
+-- Since the cell `before` the block was written with no other bytes than these, and it may hold
+-- these or what it held before.
 pub record IsTried (before now : Cell) (bytes : List ℕ) : Type 0 where
   pub held : (value : List ℕ) → Contains (candidates now) value →
       Contains (before.bytes ∷ bytes ∷ []) value
@@ -64,9 +65,9 @@ abbrev pub IsElsewhere : ℕ → List Queued → ℕ → Type 0
 IsElsewhere ring blocks b = (i : ℕ) (q : Queued) → slice_get blocks i ≡ Some q →
     place_in ring q ≡ b → ⊥
 
--- Since the first calls no disk block of the ring was written but those of the closed blocks, each of these
--- with its own bytes alone. The first `written` of them were written by good writes, and the first
--- `settled` were flushed since.
+-- Since the first calls no disk block of the ring was written but those of the closed blocks, each
+-- of these with its own bytes alone. The first `written` of them were written by good writes, and
+-- the first `settled` were flushed since.
 pub record RingHolds (r : DiskRecord) (from ring epoch : ℕ) (blocks : List Queued)
     (written settled : ℕ) : Type 0 where
   pub since : from ≤ length r.calls
@@ -82,7 +83,8 @@ pub record RingHolds (r : DiskRecord) (from ring epoch : ℕ) (blocks : List Que
   pub fixed : (i : ℕ) (q : Queued) → slice_get blocks i ≡ Some q → i < settled →
       (cell_now r (place_in ring q)).loose ≡ false
 
--- The stream of the image is what was read and then the first of the closed blocks, at least the settled ones.
+-- The stream of the image is what was read and then the first of the closed blocks, at least the
+-- settled ones.
 pub record KeepsStream (image : List (List ℕ)) (f : Fields) (read : List StreamBlock)
     (blocks : List Queued) (settled : ℕ) : Type 0 where
   pub count : ℕ

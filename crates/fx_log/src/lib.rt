@@ -1,5 +1,5 @@
-//! The write-ahead log of an image: which superblock is chosen, the ring of blocks that it names, and the
-//! stream of blocks that every image left by a stop has of it.
+//! The write-ahead log of an image: which superblock is chosen, the ring of blocks that it names,
+//! and the stream of blocks that every image left by a stop has of it.
 //!
 //! Definitions and lemmas alone: the functions do nothing.
 #![tactic(auto)]
@@ -22,10 +22,10 @@ pub fn superblock_law()
         ChoosesSuper f image → ChoosesSuper g image → f ≡ g }
 {}
 
-/// A disk keeps its log over the write of the log's next block, good or failed, and over a flush. A good
-/// write of it is one more block that is written; a good flush settles what was written. Every image that
-/// a stop leaves now, and that is not there by chance, has in its stream what was read and then the first
-/// of the closed blocks, at least those that were settled.
+/// A disk keeps its log over the write of the log's next block, good or failed, and over a flush. A
+/// good write of it is one more block that is written; a good flush settles what was written. Every
+/// image that a stop leaves now, and that is not there by chance, has in its stream what was read
+/// and then the first of the closed blocks, at least those that were settled.
 pub fn log_laws()
     ensures tried { (log : Log) (r : DiskRecord) (size calls : ℕ)
         (q : Queued) (held : List ℕ) (ok : Bool) →

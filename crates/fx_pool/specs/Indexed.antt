@@ -1,4 +1,5 @@
--- Free runs that are found by their order: for each order a list of starts, and for each start its place in that list.
+-- Free runs that are found by their order: for each order a list of starts, and for each start its
+-- place in that list.
 use Rattle.std.specs.Prelude.{◌≡◌, ℕ, ◌^◌, ◌<◌, ◌≤◌, List, [], length, Option, Vec, map, All, vec_capacity, slice_index_or, slice_index, count_by}
 use Rattle.std.specs.declared.alloc.Global.{Global}
 use Rattle.fx_pool.specs.declared.pool.TheConstants.{MAX_ORDER}

@@ -1,6 +1,6 @@
 -- A region of blocks, cut into runs: some are free, the others are buffers that are out.
 -- A table has an entry for each block: the order of the run that begins there, or nothing.
-use Rattle.std.specs.Prelude.{◌≡◌, ℕ, ◌+◌, ◌*◌, ◌^◌, ◌<◌, ◌≤◌, ◌⊎◌, Bool, false, eqb, List, length, Option, Some, None, slice_index_or, slice_set, slice_range, replicate, count_by}
+use Rattle.std.specs.Prelude.{◌≡◌, ◌≢◌, ℕ, ◌+◌, ◌*◌, ◌^◌, ◌<◌, ◌≤◌, ◌⊎◌, Bool, false, eqb, List, length, Option, Some, None, slice_index_or, slice_set, slice_range, replicate, count_by}
 use Rattle.fx_base.specs.declared.block.TheConstants.{BLOCK_BYTES}
 use Rattle.fx_pool.specs.declared.pool.TheConstants.{MAX_ORDER}
 
@@ -84,6 +84,21 @@ pub record LiesFree (p : Region) (r : Run) : Type 0 where
 -- the run is a buffer that is out
 abbrev pub IsOut : Region → Run → Type 0
 IsOut p r = RunBegins p.out r.start r.order
+
+-- the run of this order was taken, out of a free run of the lowest order that serves: it is out
+-- now, and apart from what was out
+pub record IsTaken (before after : Region) (k : ℕ) (run : Run) : Type 0 where
+  pub order : run.order ≡ k
+  pub was_free : LiesFree before run
+  pub is_out : IsOut after run
+  pub apart : (other : Run) → IsOut before other → other.start ≢ run.start
+  pub out : after.out ≡ slice_set before.out run.start (Some k)
+
+-- what taking a run and giving it back leave alone, which is all but the runs
+pub record KeepsBytes (before after : Region) : Type 0 where
+  pub order : after.order ≡ before.order
+  pub bytes : after.bytes ≡ before.bytes
+  pub sound : IsSound after
 
 -- what the run's blocks hold
 abbrev pub bytes_of : Region → Run → List ℕ

@@ -21,8 +21,8 @@ pub fn blocks_left()
         → ((r : Run) → IsOut p r → r.start ≤ b → b < r.start + 2 ^ r.order → ⊥) → HasFree p 0 }
 {}
 
-/// What is written to a buffer is what it holds, what the other buffers hold stays, and the region is
-/// still sound.
+/// What is written to a buffer is what it holds, what the other buffers hold stays, and the region
+/// is still sound.
 pub fn written_buffers()
     ensures held { (p : Region) (r : Run) (ws : List ℕ) → IsSound p → IsOut p r
         → length ws ≡ BLOCK_BYTES * 2 ^ r.order

@@ -1,7 +1,7 @@
 //! The pool and its buffers.
-ghost use Rattle.std.specs.Prelude.{◌≡◌, ℕ, ◌+◌, ◌*◌, ◌^◌, ◌<◌, ◌≤◌, ◌≢◌, ◌↔◌, length, Some, None, IsNone, IfOk, IfSome, slice_set};
+ghost use Rattle.std.specs.Prelude.{◌≡◌, ◌+◌, ◌*◌, ◌^◌, ◌<◌, ◌≤◌, ◌≢◌, ◌↔◌, length, Some, None, IsNone, IfOk, IfSome, slice_set};
 ghost use Rattle.std.specs.Borrow.{sem};
-ghost use Rattle.fx_pool.specs.Region.{Run, IsSound, IsOut, HasFree, LiesFree, IsMultiple, IsBuddy, bytes_of, free_of, whole};
+ghost use Rattle.fx_pool.specs.Region.{Run, IsSound, IsOut, HasFree, IsTaken, KeepsBytes, IsMultiple, IsBuddy, bytes_of, free_of, whole};
 
 use crate::free::{FreeRun, FreeRuns};
 use fx_base::BLOCK_BYTES;
@@ -110,25 +110,15 @@ impl Pool {
         })
     }
 
-    /// Takes a buffer of `2^order` blocks, which begins at a multiple of its length, out of a free run
-    /// of the lowest order that serves; `None` exactly where no free run has that order or more. The
-    /// bytes are as they were left. Takes no memory; costs the number of orders.
+    /// Takes a buffer of `2^order` blocks, which begins at a multiple of its length, out of a free
+    /// run of the lowest order that serves; `None` exactly where no free run has that order or
+    /// more. The bytes are as they were left. Takes no memory; costs the number of orders.
     pub fn take(&mut self, order: u8) -> Option<Buf>
         ensures none { IsNone result ↔ (HasFree self.old order → ⊥) }
-        ensures order { IfSome result (λ buf. buf.order ≡ order) }
-        ensures was_free { IfSome result (LiesFree self.old) }
-
-        // It is out from now on, apart from those that were out and still are.
-        ensures is_out { IfSome result (IsOut self.new) }
-        ensures apart { IfSome result (λ buf. (run : Run) → IsOut self.old run
-            → run.start ≢ buf.start) }
-        ensures still_out { (run : Run) → IsOut self.old run → IsOut self.new run }
-        ensures out { IfSome result (λ buf. self.new.out
-            ≡ slice_set self.old.out buf.start (Some order)) }
-        ensures region { self.new.order ≡ self.old.order }
-        ensures bytes { self.new.bytes ≡ self.old.bytes }
         ensures unchanged { IsNone result → self.new ≡ self.old }
-        ensures sound { IsSound self.new }
+        ensures taken { IfSome result (IsTaken self.old self.new order) }
+        ensures still_out { (run : Run) → IsOut self.old run → IsOut self.new run }
+        ensures kept { KeepsBytes self.old self.new }
     {
         let FreeRun {
             start,
@@ -150,16 +140,14 @@ impl Pool {
         Some(Buf { start, order })
     }
 
-    /// Gives a buffer of this pool back, and merges it with its buddy for as long as that is free. Takes no
-    /// memory; costs the number of orders.
+    /// Gives a buffer of this pool back, and merges it with its buddy for as long as that is free.
+    /// Takes no memory; costs the number of orders.
     pub fn give(&mut self, buf: Buf)
         requires { IsOut self.old buf }
         ensures still_out { (run : Run) → run.start ≢ buf.start → IsOut self.old run
             → IsOut self.new run }
         ensures out { self.new.out ≡ slice_set self.old.out buf.start None }
-        ensures region { self.new.order ≡ self.old.order }
-        ensures bytes { self.new.bytes ≡ self.old.bytes }
-        ensures sound { IsSound self.new }
+        ensures kept { KeepsBytes self.old self.new }
     {
         let Buf { start, order } = buf;
         self.out[usize::from(start)] = None;

@@ -16,13 +16,14 @@ other B = A
 abbrev pub block_of : List (List ℕ) → Which → List ℕ
 block_of image which = slice_index_or image (block_number which) []
 
--- Block 0 goes before block 1 where its generation is as great, block 1 before block 0 where it is greater.
+-- Block 0 goes before block 1 where its generation is as great, block 1 before block 0 where it is
+-- greater.
 abbrev pub GoesBefore : Which → ℕ → ℕ → Type 0
 GoesBefore A generation others = others ≤ generation
 GoesBefore B generation others = others < generation
 
--- This one of the two blocks is a superblock of these fields, and it goes before the other if that is
--- one too.
+-- This one of the two blocks is a superblock of these fields, and it goes before the other if that
+-- is one too.
 pub record IsChosen (image : List (List ℕ)) (which : Which) (f : Fields) : Type 0 where
   pub is_super : IsSuper (block_of image which) f
   pub goes_before : (g : Fields) → IsSuper (block_of image (other which)) g

@@ -32,8 +32,8 @@ impl Which {
     }
 }
 
-/// Which of two superblocks is chosen, by their generations: the one of greater generation, `A` where
-/// they are equal. `None` stands for a block that is no superblock.
+/// Which of two superblocks is chosen, by their generations: the one of greater generation, `A`
+/// where they are equal. `None` stands for a block that is no superblock.
 pub fn choose(a: Option<u64>, b: Option<u64>) -> Option<Which>
     ensures { result ≡ choice a b }
 {

@@ -21,9 +21,9 @@ pub enum SuperFault {
     Version(u32),
 }
 
-/// What the block says, if it is a superblock: `Version` exactly where the magic and the sum are right
-/// and the version is another one, and `Bad` exactly where it is neither. The sum takes one pass over
-/// the block, the fields another, and no memory is taken.
+/// What the block says, if it is a superblock: `Version` exactly where the magic and the sum are
+/// right and the version is another one, and `Bad` exactly where it is neither. The sum takes one
+/// pass over the block, the fields another, and no memory is taken.
 pub fn decode_super(block: &[u8; BLOCK_BYTES]) -> Result<Super, SuperFault>
     ensures decoded { Decoded block.now result }
     // A superblock is read as what it says.

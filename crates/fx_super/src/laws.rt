@@ -1,5 +1,6 @@
 //! What holds of superblocks and of the chosen one, for those who prove: the functions do nothing.
 ghost use Rattle.std.specs.Prelude.{◌≡◌, ◌<◌, ◌≤◌, ℕ, List, Option, MatchOption, length, replicate, slice_set};
+ghost use Rattle.fx_base.specs.declared.block.TheConstants.{BLOCK_BYTES};
 ghost use Rattle.fx_super.specs.Super.{Fields, IsSuper, IsVersion};
 ghost use Rattle.fx_super.specs.Chosen.{IsChosen, HasNoChosen, HasGeneration, block_of, block_number, other, choice};
 ghost use Rattle.fx_super.specs.declared.choice.Which.{Which};
@@ -9,7 +10,7 @@ pub fn one_spelling()
     ensures fields { (block : List ℕ) (f g : Fields) → IsSuper block f → IsSuper block g → f ≡ g }
     ensures version { (block : List ℕ) (f : Fields) (v : ℕ)
         → IsSuper block f → IsVersion block v → ⊥ }
-    ensures length { (block : List ℕ) (f : Fields) → IsSuper block f → length block ≡ 4096 }
+    ensures length { (block : List ℕ) (f : Fields) → IsSuper block f → length block ≡ BLOCK_BYTES }
 {}
 
 /// A block of zeros is no superblock of any version.
@@ -33,8 +34,8 @@ pub fn chosen_by_generation()
         → MatchOption (choice a b) (HasNoChosen image) (λ w. (f : Fields) × IsChosen image w f) }
 {}
 
-/// In place of the block that is not chosen, a superblock of greater generation is the chosen one, and
-/// with a block that is no superblock the chosen one stays.
+/// In place of the block that is not chosen, a superblock of greater generation is the chosen one,
+/// and with a block that is no superblock the chosen one stays.
 pub fn other_block_written()
     ensures newer { (image : List (List ℕ)) (w : Which) (f g : Fields) (block : List ℕ)
         → 2 ≤ length image → IsChosen image w f

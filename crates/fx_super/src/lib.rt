@@ -1,5 +1,6 @@
 //! Superblocks: the two blocks of a device that say where everything else lies. They are written in
-//! turn, and the one of greater generation is chosen, so that a stop within a write leaves the other.
+//! turn, and the one of greater generation is chosen, so that a stop within a write leaves the
+//! other.
 #![tactic(auto)]
 
 mod choice;

@@ -1,7 +1,7 @@
 ghost use Rattle.std.specs.Prelude.{◌≡◌, ◌+◌, ◌≤◌, ◌^◌, ◌<◌, IfOk};
 ghost use Rattle.fx_pool.specs.Region.{whole, IsSound};
 ghost use Rattle.fx_journal.specs.Ring.{want};
-ghost use Rattle.fx_journal.specs.Ready.{IsReady};
+ghost use Rattle.fx_journal.specs.Ready.{HasPool};
 
 use super::*;
 use crate::fake::FakeDisk;
@@ -21,16 +21,16 @@ fn at_start(
     requires fits { closed ≤ 256 }
     requires low { start.sequence < 2 ^ 62 }
     requires next { next.sequence ≡ start.sequence + closed }
-    ensures { IfOk result (λ r. IsReady r pool.now) }
+    ensures { IfOk result (λ r. HasPool r pool.now) }
 {
     let ring = Ring::at(alloc, start, 256, closed, next, 2)?;
     Ok(ring)
 }
 
 fn reserve(ring: &mut Ring, pool: &mut Pool, bytes: u32) -> Result<(), Full>
-    requires ready { IsReady ring.old pool.old }
+    requires ready { HasPool ring.old pool.old }
     requires few { bytes < 1040384 }
-    ensures { IsReady ring.new pool.new }
+    ensures { HasPool ring.new pool.new }
 {
     if let Err(full) = ring.reserve(pool, bytes) {
         return Err(full);
@@ -39,24 +39,24 @@ fn reserve(ring: &mut Ring, pool: &mut Pool, bytes: u32) -> Result<(), Full>
 }
 
 fn append(rt: &impl Abort, ring: &mut Ring, pool: &mut Pool, rec: &[u8])
-    requires { IsReady ring.old pool.old }
-    ensures { IsReady ring.new pool.new }
+    requires { HasPool ring.old pool.old }
+    ensures { HasPool ring.new pool.new }
 {
     assert!(rt; rec.len() <= RECORD_BYTES * ring.promised() as usize);
     ring.append(pool, rec);
 }
 
 fn cancel(rt: &impl Abort, ring: &mut Ring, pool: &mut Pool, bytes: u32)
-    requires { IsReady ring.old pool.old }
-    ensures { IsReady ring.new pool.new }
+    requires { HasPool ring.old pool.old }
+    ensures { HasPool ring.new pool.new }
 {
     assert!(rt; bytes as usize <= RECORD_BYTES * ring.promised() as usize);
     ring.cancel(pool, bytes);
 }
 
 fn pad(ring: &mut Ring, pool: &mut Pool) -> Start
-    requires { IsReady ring.old pool.old }
-    ensures { IsReady ring.new pool.new }
+    requires { HasPool ring.old pool.old }
+    ensures { HasPool ring.new pool.new }
 {
     ring.pad(pool)
 }
@@ -68,16 +68,16 @@ fn write<D: Disk>(
     disk: &mut D,
     before: u64,
 ) -> Result<Wrote, DiskFailed>
-    requires { IsReady ring.old pool.old }
-    ensures { IsReady ring.new pool.new }
+    requires { HasPool ring.old pool.old }
+    ensures { HasPool ring.new pool.new }
 {
     assert!(rt; disk.blocks() >= 258);
     ring.write_next(pool, disk, before)
 }
 
 fn free_before(rt: &impl Abort, ring: &mut Ring, pool: &mut Pool, sequence: u64)
-    requires { IsReady ring.old pool.old }
-    ensures { IsReady ring.new pool.new }
+    requires { HasPool ring.old pool.old }
+    ensures { HasPool ring.new pool.new }
 {
     assert!(rt; ring.start.sequence <= sequence);
     assert!(rt; sequence <= ring.next_sequence());
@@ -111,17 +111,17 @@ fn disk_with_a_fault(alloc: Global) -> Result<Option<FakeDisk>, AllocError> {
 }
 
 fn expect_reserved(rt: &impl Abort, ring: &mut Ring, pool: &mut Pool, bytes: u32)
-    requires ready { IsReady ring.old pool.old }
+    requires ready { HasPool ring.old pool.old }
     requires few { bytes < 1040384 }
-    ensures { IsReady ring.new pool.new }
+    ensures { HasPool ring.new pool.new }
 {
     assert!(rt; reserve(ring, pool, bytes).is_ok());
 }
 
 fn expect_full(rt: &impl Abort, ring: &mut Ring, pool: &mut Pool, bytes: u32, full: Full)
-    requires ready { IsReady ring.old pool.old }
+    requires ready { HasPool ring.old pool.old }
     requires few { bytes < 1040384 }
-    ensures { IsReady ring.new pool.new }
+    ensures { HasPool ring.new pool.new }
 {
     assert!(rt; reserve(ring, pool, bytes) == Err(full));
 }
@@ -134,16 +134,17 @@ fn expect_write<D: Disk>(
     before: u64,
     wanted: Result<Wrote, DiskFailed>,
 )
-    requires { IsReady ring.old pool.old }
-    ensures { IsReady ring.new pool.new }
+    requires { HasPool ring.old pool.old }
+    ensures { HasPool ring.new pool.new }
 {
     assert!(rt; write(rt, ring, pool, disk, before) == wanted);
 }
 
-// Appends 4,070 bytes in two records, pads, and writes the two blocks. The second write fails first.
+// Appends 4,070 bytes in two records, pads, and writes the two blocks. The second write fails
+// first.
 fn write_two<D: Disk>(rt: &impl Abort, ring: &mut Ring, pool: &mut Pool, disk: &mut D) -> Start
-    requires { IsReady ring.old pool.old }
-    ensures { IsReady ring.new pool.new }
+    requires { HasPool ring.old pool.old }
+    ensures { HasPool ring.new pool.new }
 {
     expect_reserved(rt, ring, pool, 4070);
     expect_write(rt, ring, pool, disk, 256, Ok(Wrote::Nothing));
@@ -209,8 +210,8 @@ fn counted(live: u32, promised: u32, want: u32) -> Full {
 
 // The ring of 256 blocks has 254 blocks to promise where none is closed.
 fn fill(rt: &impl Abort, ring: &mut Ring, pool: &mut Pool, bytes: &[u8])
-    requires { IsReady ring.old pool.old }
-    ensures { IsReady ring.new pool.new }
+    requires { HasPool ring.old pool.old }
+    ensures { HasPool ring.new pool.new }
 {
     expect_full(rt, ring, pool, 1_032_257, counted(1, 0, 255));
     expect_reserved(rt, ring, pool, 1_032_256);

@@ -16,22 +16,18 @@ unreachable-requires c = let bad : false ≡ true = c.in_default.ensures.variant
 pub give-requires : goal.give-requires
 give-requires c = (last-out c.args.buffers.now.items c.pop_back.new.self.items c.in-Some.buffer c.args.pool.now c.in-Some.ensures.items c.requires.buffers).0
 
-pub returns-clause-buffers : goal.returns-clause-buffers
-returns-clause-buffers c =
-    kept-last c.pop_back.new.self.items c.in-Some.buffer c.args.pool.now c.give.new.self
-    (subst (λ (l : List Run). KeepsBuffers l c.args.pool.now) c.in-Some.ensures.items c.requires.buffers) c.give.ensures.sound c.give.ensures.still_out
-
 pub returns-clause-left : goal.returns-clause-left
 returns-clause-left c = front_is c.args.buffers.now.items c.pop_back.new.self.items c.in-Some.buffer c.in-Some.ensures.items
 
-pub returns-clause-others : goal.returns-clause-others
-returns-clause-others c =
-    others-given c.args.buffers.now.items c.in-Some.buffer (length c.pop_back.new.self.items) c.args.pool.now c.give.new.self
-    (omega (arith, ap length c.in-Some.ensures.items, length_push c.pop_back.new.self.items c.in-Some.buffer))
-    (ap (λ (l : List Run). run_at l (length c.pop_back.new.self.items)) c.in-Some.ensures.items ∙ get_or_push c.pop_back.new.self.items c.in-Some.buffer (record { start = 0; order = 0 }) (length c.pop_back.new.self.items) refl)
-    c.give.ensures.region c.give.ensures.bytes c.give.ensures.still_out
-
-pub returns-clause-counted : goal.returns-clause-counted
-returns-clause-counted c =
-    let last = last-out c.args.buffers.now.items c.pop_back.new.self.items c.in-Some.buffer c.args.pool.now c.in-Some.ensures.items c.requires.buffers in
-    given c.args.pool.now c.give.new.self c.in-Some.buffer c.requires.buffers.sound last.0 last.1 c.give.ensures.out
+pub returns-clause-gave : goal.returns-clause-gave
+returns-clause-gave c = record {
+  buffers = kept-last c.pop_back.new.self.items c.in-Some.buffer c.args.pool.now c.give.new.self
+      (subst (λ (l : List Run). KeepsBuffers l c.args.pool.now) c.in-Some.ensures.items c.requires.buffers) c.give.ensures.kept.sound c.give.ensures.still_out;
+  others = others-given c.args.buffers.now.items c.in-Some.buffer (length c.pop_back.new.self.items) c.args.pool.now c.give.new.self
+      (omega (arith, ap length c.in-Some.ensures.items, length_push c.pop_back.new.self.items c.in-Some.buffer))
+      (ap (λ (l : List Run). run_at l (length c.pop_back.new.self.items)) c.in-Some.ensures.items ∙ get_or_push c.pop_back.new.self.items c.in-Some.buffer (record { start = 0; order = 0 }) (length c.pop_back.new.self.items) refl)
+      c.give.ensures.kept.order c.give.ensures.kept.bytes c.give.ensures.still_out;
+  bytes = c.give.ensures.kept.bytes;
+  counted = let last = last-out c.args.buffers.now.items c.pop_back.new.self.items c.in-Some.buffer c.args.pool.now c.in-Some.ensures.items c.requires.buffers in
+      given c.args.pool.now c.give.new.self c.in-Some.buffer c.requires.buffers.sound last.0 last.1 c.give.ensures.out;
+}

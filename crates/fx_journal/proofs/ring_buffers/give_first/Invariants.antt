@@ -1,9 +1,9 @@
 use Rattle.std.proofs.Common.{◌≡◌, drop, deque_capacity}
-use Rattle.fx_journal.proofs.Buffers.{Gave}
+use Rattle.fx_journal.specs.Buffers.{GaveBuffers}
 use Rattle.fx_journal.proofs.ring_buffers.give_first.Given as goal
 
 abbrev pub invariant-loop : goal.invariant-loop
 invariant-loop l =
-    Gave l.fn.buffers.items l.buffers.items l.fn.pool l.pool l.counter
+    GaveBuffers l.fn.buffers.items l.buffers.items l.fn.pool l.pool l.counter
     × (l.buffers.items ≡ drop l.counter l.fn.buffers.items)
     × (deque_capacity l.buffers ≡ deque_capacity l.fn.buffers)

@@ -1,4 +1,4 @@
-use Rattle.std.proofs.Common.{◌≡◌, true, false, List, ◌∷◌, length, drop, refl, sym, subst, ap, arith}
+use Rattle.std.proofs.Common.{◌≡◌, true, false, List, drop, sym, subst, ap, arith}
 use Rattle.fx_pool.specs.Region.{Run}
 use Rattle.fx_journal.specs.Ring.{run_at, KeepsBuffers}
 use Rattle.fx_journal.proofs.Counted.{given}
@@ -11,20 +11,16 @@ unreachable-requires c = let bad : false ≡ true = c.in_default.ensures.variant
 pub give-requires : goal.give-requires
 give-requires c = (first-out c.args.buffers.now.items c.pop_front.new.self.items c.in-Some.buffer c.args.pool.now c.in-Some.ensures.items c.requires.buffers).0
 
-pub returns-clause-buffers : goal.returns-clause-buffers
-returns-clause-buffers c =
-    kept-first c.in-Some.buffer c.pop_front.new.self.items c.args.pool.now c.give.new.self
-    (subst (λ (l : List Run). KeepsBuffers l c.args.pool.now) c.in-Some.ensures.items c.requires.buffers) c.give.ensures.sound c.give.ensures.still_out
-
 pub returns-clause-left : goal.returns-clause-left
 returns-clause-left c = sym (ap (λ (l : List Run). drop 1 l) c.in-Some.ensures.items)
 
-pub returns-clause-others : goal.returns-clause-others
-returns-clause-others c =
-    others-given c.args.buffers.now.items c.in-Some.buffer 0 c.args.pool.now c.give.new.self c.requires.enough
-    (ap (λ (l : List Run). run_at l 0) c.in-Some.ensures.items) c.give.ensures.region c.give.ensures.bytes c.give.ensures.still_out
-
-pub returns-clause-counted : goal.returns-clause-counted
-returns-clause-counted c =
-    let first = first-out c.args.buffers.now.items c.pop_front.new.self.items c.in-Some.buffer c.args.pool.now c.in-Some.ensures.items c.requires.buffers in
-    given c.args.pool.now c.give.new.self c.in-Some.buffer c.requires.buffers.sound first.0 first.1 c.give.ensures.out
+pub returns-clause-gave : goal.returns-clause-gave
+returns-clause-gave c = record {
+  buffers = kept-first c.in-Some.buffer c.pop_front.new.self.items c.args.pool.now c.give.new.self
+      (subst (λ (l : List Run). KeepsBuffers l c.args.pool.now) c.in-Some.ensures.items c.requires.buffers) c.give.ensures.kept.sound c.give.ensures.still_out;
+  others = others-given c.args.buffers.now.items c.in-Some.buffer 0 c.args.pool.now c.give.new.self c.requires.enough
+      (ap (λ (l : List Run). run_at l 0) c.in-Some.ensures.items) c.give.ensures.kept.order c.give.ensures.kept.bytes c.give.ensures.still_out;
+  bytes = c.give.ensures.kept.bytes;
+  counted = let first = first-out c.args.buffers.now.items c.pop_front.new.self.items c.in-Some.buffer c.args.pool.now c.in-Some.ensures.items c.requires.buffers in
+      given c.args.pool.now c.give.new.self c.in-Some.buffer c.requires.buffers.sound first.0 first.1 c.give.ensures.out;
+}

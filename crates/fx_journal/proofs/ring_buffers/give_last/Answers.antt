@@ -1,6 +1,7 @@
-use Rattle.std.proofs.Common.{◌≡◌, ℕ, ◌+◌, ◌-◌, List, length, take, refl, sym, ◌∙◌, ap, arith}
+use Rattle.std.proofs.Common.{◌≡◌, ℕ, ◌+◌, ◌-◌, List, length, take, refl, sym, ◌∙◌, subst, ap, arith}
 use Rattle.std.proofs.lemmas.List.{take-take, length-take, take_all}
 use Rattle.fx_pool.specs.Region.{Run}
+use Rattle.fx_journal.specs.Buffers.{GaveBuffers}
 use Rattle.fx_journal.proofs.Buffers.{gave-none, gave-last}
 use Rattle.fx_journal.proofs.ring_buffers.give_last.Goals as goal
 
@@ -25,7 +26,7 @@ give_back-requires c = record {
 pub loop-preserved : goal.loop-preserved
 loop-preserved c =
     let e = c.give_back.ensures in (
-      gave-last c.args.buffers.now.items c.loop.buffers.items c.give_back.new.buffers.items c.args.pool.now c.loop.pool c.give_back.new.pool (length c.args.buffers.now.items - c.loop.counter) c.loop.counter c.loop.invariant.1 c.loop.invariant.0 e.buffers e.others e.bytes e.counted,
+      gave-last c.args.buffers.now.items c.loop.buffers.items c.give_back.new.buffers.items c.args.pool.now c.loop.pool c.give_back.new.pool (length c.args.buffers.now.items - c.loop.counter) c.loop.counter c.loop.invariant.1 c.loop.invariant.0 e.gave,
       e.left ∙ fewer c.args.buffers.now.items c.loop.buffers.items c.loop.counter c.loop.invariant.1,
       e.capacity ∙ c.loop.invariant.2,
     )
@@ -34,10 +35,7 @@ pub returns : goal.returns
 returns c =
     let end : c.loop.counter ≡ c.args.count = omega arith in
     record {
-      buffers = c.loop.invariant.0.buffers;
+      gave = subst (λ (k : ℕ). GaveBuffers c.args.buffers.now.items c.loop.buffers.items c.args.pool.now c.loop.pool k) end c.loop.invariant.0;
       left = c.loop.invariant.1 ∙ ap (λ (k : ℕ). take (length c.args.buffers.now.items - k) c.args.buffers.now.items) end;
       capacity = c.loop.invariant.2;
-      others = c.loop.invariant.0.others;
-      bytes = c.loop.invariant.0.bytes;
-      counted = omega (arith, c.loop.invariant.0.counted);
     }

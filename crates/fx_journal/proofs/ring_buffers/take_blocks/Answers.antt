@@ -1,5 +1,6 @@
-use Rattle.std.proofs.Common.{ℕ, ◌<◌, ◌^◌, sym, subst, arith}
+use Rattle.std.proofs.Common.{◌≡◌, ℕ, ◌<◌, ◌^◌, sym, subst, arith}
 use Rattle.fx_journal.specs.Ring.{blocks_out}
+use Rattle.fx_journal.specs.Buffers.{TookBuffers}
 use Rattle.fx_journal.proofs.Buffers.{took-none, took-more}
 use Rattle.fx_journal.proofs.ring_buffers.take_blocks.Goals as goal
 
@@ -16,18 +17,14 @@ take_block-requires c = record {
 pub loop-preserved : goal.loop-preserved
 loop-preserved c =
     let e = c.take_block.ensures in (
-      took-more c.args.buffers.now.items c.loop.buffers.items c.take_block.new.buffers.items c.args.pool.now c.loop.pool c.take_block.new.pool c.loop.counter c.loop.invariant.0 e.kept e.len e.buffers e.others e.bytes e.order e.counted,
+      took-more c.args.buffers.now.items c.loop.buffers.items c.take_block.new.buffers.items c.args.pool.now c.loop.pool c.take_block.new.pool c.loop.counter c.loop.invariant.0 e.took,
       omega (arith, c.loop.invariant.1, c.take_block.ensures.capacity),
     )
 
 pub returns : goal.returns
-returns c = record {
-  buffers = c.loop.invariant.0.buffers;
-  kept = c.loop.invariant.0.kept;
-  len = omega (arith, c.loop.invariant.0.len);
-  capacity = c.loop.invariant.1;
-  others = c.loop.invariant.0.others;
-  bytes = c.loop.invariant.0.bytes;
-  order = c.loop.invariant.0.order;
-  counted = omega (arith, c.loop.invariant.0.counted);
-}
+returns c =
+    let end : c.loop.counter ≡ c.args.count = omega arith in
+    record {
+      took = subst (λ (k : ℕ). TookBuffers c.args.buffers.now.items c.loop.buffers.items c.args.pool.now c.loop.pool k) end c.loop.invariant.0;
+      capacity = c.loop.invariant.1;
+    }

@@ -1,7 +1,7 @@
-use Rattle.std.proofs.Common.{◌≡◌, ℕ, ◌+◌, ◌-◌, ◌≤◌, ◌<◌, List, ◌++◌, length, take, drop, refl, sym, ◌∙◌, subst, ap, arith}
+use Rattle.std.proofs.Common.{◌≡◌, ℕ, ◌+◌, ◌-◌, ◌<◌, List, ◌++◌, length, take, drop, sym, ◌∙◌, subst, ap, arith}
 use Rattle.std.proofs.lemmas.List.{take-append-drop, length-append}
 use Rattle.fx_pool.specs.Region.{Run}
-use Rattle.fx_journal.specs.Ring.{KeepsBuffers, RingState, IsRing, begun, want}
+use Rattle.fx_journal.specs.Ring.{KeepsBuffers, RingState, IsRing, begun}
 use Rattle.fx_journal.proofs.Appending.{going-none, going-more, promise_left, promise_rest, promise_stays, ends-queue, ends-given, ends-others}
 use Rattle.fx_journal.proofs.ring.Ring.append.Goals as goal
 
@@ -66,37 +66,27 @@ overflow_sub-unused c =
 
 pub returns-clause-queue : goal.returns-clause-queue
 returns-clause-queue c =
-    ends-queue c.args.self.now c.loop-piece.self c.begin_with.new.self c.give_promised.new.self c.args.pool.now c.loop-piece.pool c.give_promised.new.pool c.loop-piece.rest.now c.args.rec.now _ c.loop-piece.invariant c.begin_with.ensures.begun c.give_promised.ensures.promised c.give_promised.ensures.queue
-
-pub returns-clause-promised : goal.returns-clause-promised
-returns-clause-promised c =
-    let i = c.loop-piece.invariant in
-    let text : c.len.result ≡ length c.loop-piece.self.text = omega (arith, c.len.ensures, ap (λ (r : RingState). length r.text) c.self-in-loop-piece.view_is, c.self-in-loop-piece.inside.text.ok.0) in
-    let room : length c.loop-piece.self.text + length c.loop-piece.rest.now < 4064 = omega (arith, text, i.ring.unfinished_room, c.in_default.ensures.cases) in
-    let stays = promise_stays c.args.self.now c.loop-piece.self c.args.pool.now c.loop-piece.pool c.loop-piece.rest.now c.args.rec.now i (subst IsRing c.self.view_is c.self.invariant.0) c.requires.promised room in
-    omega (arith, stays, c.want_of.ensures, ap (λ (r : RingState). r.promised) c.self.view_is, ap (λ (r : RingState). r.promised) c.self-2.view_is, ap (λ (r : RingState). r.promised) c.begin_with.ensures.begun, ap (λ (r : RingState). r.promised) c.give_promised.ensures.promised)
-
-pub returns-clause-counted : goal.returns-clause-counted
-returns-clause-counted c =
-    omega (arith, c.loop-piece.invariant.counted, length-append c.loop-piece.self.text c.loop-piece.rest.now, ap (λ (r : RingState). length r.text) c.begin_with.ensures.begun, ap (λ (r : RingState). length r.text) c.give_promised.ensures.promised, ap (λ (r : RingState). r.closed) c.begin_with.ensures.begun, ap (λ (r : RingState). r.closed) c.give_promised.ensures.promised)
-
-pub returns-clause-queued : goal.returns-clause-queued
-returns-clause-queued c =
-    omega (arith, c.loop-piece.invariant.queued, ap (λ (r : RingState). r.queued) c.begin_with.ensures.begun, ap (λ (r : RingState). r.queued) c.give_promised.ensures.promised, ap (λ (r : RingState). r.closed) c.begin_with.ensures.begun, ap (λ (r : RingState). r.closed) c.give_promised.ensures.promised)
-
-pub returns-clause-start : goal.returns-clause-start
-returns-clause-start c = ap (λ (r : RingState). r.start) c.give_promised.ensures.promised ∙ ap (λ (r : RingState). r.start) c.begin_with.ensures.begun ∙ c.loop-piece.invariant.start
-
-pub returns-clause-given : goal.returns-clause-given
-returns-clause-given c =
-    ends-given c.args.self.now c.loop-piece.self c.begin_with.new.self c.give_promised.new.self c.args.pool.now c.loop-piece.pool c.give_promised.new.pool c.loop-piece.rest.now c.args.rec.now _ c.loop-piece.invariant (subst IsRing c.self.view_is c.self.invariant.0) c.begin_with.ensures.ring c.give_promised.ensures.kept.ring c.begin_with.ensures.begun c.give_promised.ensures.promised
-    (omega (arith, ap (λ (r : RingState). r.promised) c.self-2.view_is)) c.give_promised.ensures.given
+    ends-queue c.args.self.now c.loop-piece.self c.begin_with.new.self c.give_promised.new.self c.args.pool.now c.loop-piece.pool c.give_promised.new.pool c.loop-piece.rest.now c.args.rec.now _ c.loop-piece.invariant c.begin_with.ensures.begun c.give_promised.ensures.cancelled.ring c.give_promised.ensures.queue
 
 pub returns-clause-kept : goal.returns-clause-kept
 returns-clause-kept c = record {
-  size = ap (λ (r : RingState). r.size) c.give_promised.ensures.promised ∙ ap (λ (r : RingState). r.size) c.begin_with.ensures.begun ∙ c.loop-piece.invariant.size;
-  epoch = ap (λ (r : RingState). r.epoch) c.give_promised.ensures.promised ∙ ap (λ (r : RingState). r.epoch) c.begin_with.ensures.begun ∙ c.loop-piece.invariant.epoch;
+  size = ap (λ (r : RingState). r.size) c.give_promised.ensures.cancelled.ring ∙ ap (λ (r : RingState). r.size) c.begin_with.ensures.begun ∙ c.loop-piece.invariant.size;
+  epoch = ap (λ (r : RingState). r.epoch) c.give_promised.ensures.cancelled.ring ∙ ap (λ (r : RingState). r.epoch) c.begin_with.ensures.begun ∙ c.loop-piece.invariant.epoch;
   ring = c.give_promised.ensures.kept.ring;
   buffers = c.give_promised.ensures.kept.buffers;
   others = ends-others c.args.self.now c.loop-piece.self c.begin_with.new.self c.args.pool.now c.loop-piece.pool c.give_promised.new.pool c.loop-piece.rest.now c.args.rec.now c.loop-piece.invariant c.begin_with.ensures.begun c.give_promised.ensures.kept.others;
+}
+
+pub returns-clause-counts : goal.returns-clause-counts
+returns-clause-counts c = record {
+  promised = let i = c.loop-piece.invariant in
+      let text : c.len.result ≡ length c.loop-piece.self.text = omega (arith, c.len.ensures, ap (λ (r : RingState). length r.text) c.self-in-loop-piece.view_is, c.self-in-loop-piece.inside.text.ok.0) in
+      let room : length c.loop-piece.self.text + length c.loop-piece.rest.now < 4064 = omega (arith, text, i.ring.unfinished_room, c.in_default.ensures.cases) in
+      let stays = promise_stays c.args.self.now c.loop-piece.self c.args.pool.now c.loop-piece.pool c.loop-piece.rest.now c.args.rec.now i (subst IsRing c.self.view_is c.self.invariant.0) c.requires.promised room in
+      omega (arith, stays, c.want_of.ensures, ap (λ (r : RingState). r.promised) c.self.view_is, ap (λ (r : RingState). r.promised) c.self-2.view_is, ap (λ (r : RingState). r.promised) c.begin_with.ensures.begun, ap (λ (r : RingState). r.promised) c.give_promised.ensures.cancelled.ring);
+  counted = omega (arith, c.loop-piece.invariant.counted, length-append c.loop-piece.self.text c.loop-piece.rest.now, ap (λ (r : RingState). length r.text) c.begin_with.ensures.begun, ap (λ (r : RingState). length r.text) c.give_promised.ensures.cancelled.ring, ap (λ (r : RingState). r.closed) c.begin_with.ensures.begun, ap (λ (r : RingState). r.closed) c.give_promised.ensures.cancelled.ring);
+  queued = omega (arith, c.loop-piece.invariant.queued, ap (λ (r : RingState). r.queued) c.begin_with.ensures.begun, ap (λ (r : RingState). r.queued) c.give_promised.ensures.cancelled.ring, ap (λ (r : RingState). r.closed) c.begin_with.ensures.begun, ap (λ (r : RingState). r.closed) c.give_promised.ensures.cancelled.ring);
+  start = ap (λ (r : RingState). r.start) c.give_promised.ensures.cancelled.ring ∙ ap (λ (r : RingState). r.start) c.begin_with.ensures.begun ∙ c.loop-piece.invariant.start;
+  given = ends-given c.args.self.now c.loop-piece.self c.begin_with.new.self c.give_promised.new.self c.args.pool.now c.loop-piece.pool c.give_promised.new.pool c.loop-piece.rest.now c.args.rec.now _ c.loop-piece.invariant (subst IsRing c.self.view_is c.self.invariant.0) c.begin_with.ensures.ring c.give_promised.ensures.kept.ring c.begin_with.ensures.begun c.give_promised.ensures.cancelled.ring
+      (omega (arith, ap (λ (r : RingState). r.promised) c.self-2.view_is)) c.give_promised.ensures.cancelled.given;
 }

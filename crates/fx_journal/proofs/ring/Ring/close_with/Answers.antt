@@ -23,4 +23,4 @@ returns-clause-queue c =
     let packed_1 = subst (λ (s : ℕ). Holds (bytes_of c.pack_into-self-inside.new.pool c.in-Some.buffer.now) s i.epoch i.chain c.deref-2.result.now) sequence c.pack_into-self-inside.ensures.holds in
     let packed = subst (λ (t : List ℕ). Holds (bytes_of c.pack_into-self-inside.new.pool c.in-Some.buffer.now) (number (next_place ring)) i.epoch i.chain t) text packed_1 in
     seen-closes ring c.args.self.now _ c.args.piece.now c.args.pool.now c.pack_into-self-inside.new.pool c.self.view_is
-    (holds-closes ring c.args.piece.now _ _ _ c.args.pool.now c.pack_into-self-inside.new.pool c.in-Some.buffer.now c.self.invariant.0 kept after room at packed c.pack_into-self-inside.ensures.others)
+    (holds-closes ring c.args.piece.now _ _ _ c.args.pool.now c.pack_into-self-inside.new.pool c.in-Some.buffer.now c.self.invariant.0 kept after room at packed c.pack_into-self-inside.ensures.wrote.others)

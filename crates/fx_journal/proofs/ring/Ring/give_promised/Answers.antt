@@ -1,4 +1,4 @@
-use Rattle.std.proofs.Common.{ℕ, ◌+◌, ◌-◌, ◌≤◌, length, ap, arith}
+use Rattle.std.proofs.Common.{◌-◌, ◌≤◌, length, ap, arith}
 use Rattle.std.proofs.lemmas.List.{length-take}
 use Rattle.fx_journal.specs.Ring.{RingState}
 use Rattle.fx_journal.proofs.Queues.{holds-kept, seen, bytes-fewer}
@@ -12,4 +12,4 @@ returns-clause-queue c =
     let len : i.queued ≤ length c.give_last.new.buffers.items = omega (arith, few, ap length c.give_last.ensures.left, length-take (length i.buffers.items - c.args.count) i.buffers.items) in
     seen ring c.args.self.now _ c.args.pool.now c.give_last.new.pool c.self.view_is
     (holds-kept ring _ c.give_last.new.buffers.items c.args.pool.now c.give_last.new.pool len
-    (λ k lt. bytes-fewer i.buffers.items c.give_last.new.buffers.items c.args.pool.now c.give_last.new.pool (length i.buffers.items - c.args.count) k c.give_last.ensures.bytes c.give_last.ensures.left (omega arith)))
+    (λ k lt. bytes-fewer i.buffers.items c.give_last.new.buffers.items c.args.pool.now c.give_last.new.pool (length i.buffers.items - c.args.count) k c.give_last.ensures.gave.bytes c.give_last.ensures.left (omega arith)))

@@ -1,9 +1,9 @@
-use Rattle.std.proofs.Common.{◌≡◌, Some, None, Ok, ℕ, ◌+◌, ◌%◌, ◌-◌, ◌<◌, true, false, List, length, drop, arith, sym, subst, ◌∙◌, ap, refl}
+use Rattle.std.proofs.Common.{◌≡◌, Some, None, ◌-◌, ◌<◌, true, false, List, length, drop, arith, sym, subst, ◌∙◌, ap, refl}
 use Rattle.std.proofs.lemmas.List.{get_or_default, length-drop}
 use Rattle.fx_disk.proofs.Frames.{called_same, write_called}
 use Rattle.fx_pool.specs.Region.{Run, IsOut, bytes_of}
-use Rattle.fx_journal.specs.Ring.{RingState, IsRing, KeepsBuffers, KeepsOthers, run_at, next_block, without_first}
-use Rattle.fx_journal.specs.Writing.{first_bytes, wrote, block_at}
+use Rattle.fx_journal.specs.Ring.{RingState, IsRing, KeepsBuffers, KeepsRest, run_at, next_block, without_first}
+use Rattle.fx_journal.specs.Writing.{wrote, block_at}
 use Rattle.fx_journal.proofs.Buffers.{keeps-same}
 use Rattle.fx_journal.proofs.Queues.{holds-first, seen-first}
 use Rattle.fx_journal.proofs.Writes.{next-waits, first-written, written-as, ring-without_first}
@@ -15,9 +15,7 @@ returns-in_default g c =
     record {
       answer = ap wrote (sym none);
       nothing = λ e. (refl, refl, refl, refl);
-      made = λ s queue e h. cc;
-      written = λ s e. cc;
-      queue = λ s queue e h. cc;
+      first = λ s e. cc;
       fault = tt;
       given = refl;
       kept = keeps-same c.args.self.now c.args.pool.now (subst IsRing c.self.view_is c.self.invariant.0) c.requires.buffers;
@@ -56,12 +54,14 @@ returns-in-Err g c =
     record {
       answer = tt;
       nothing = λ e. cc;
-      made = λ s queue e h.
-          let same : c.in-Some.sequence ≡ s = cc in
-          written-as _ _ _ _ _ _ _ (place ∙ ap (block_at c.args.self.now) same)
-          (ap (bytes_of c.args.pool.now) (sym at) ∙ first-written c.args.self.now c.args.pool.now c.args.before s queue e h) c.in-Err.ensures.written;
-      written = λ s e. tt;
-      queue = λ s queue e h. tt;
+      first = λ s e. record {
+        made = λ queue h.
+            let same : c.in-Some.sequence ≡ s = cc in
+            written-as _ _ _ _ _ _ _ (place ∙ ap (block_at c.args.self.now) same)
+            (ap (bytes_of c.args.pool.now) (sym at) ∙ first-written c.args.self.now c.args.pool.now c.args.before s queue e h) c.in-Err.ensures.written;
+        written = tt;
+        queue = λ queue h. tt;
+      };
       fault = (refl, refl);
       given = refl;
       kept = keeps-same c.args.self.now c.args.pool.now (subst IsRing c.self.view_is c.self.invariant.0) c.requires.buffers;
@@ -91,22 +91,24 @@ returns g c =
     record {
       answer = ap wrote (sym some);
       nothing = λ e. cc;
-      made = λ s queue e h.
-          let same : c.in-Some.sequence ≡ s = cc in
-          written-as _ _ _ _ _ _ _ (place ∙ ap (block_at c.args.self.now) same)
-          (ap (bytes_of c.args.pool.now) (sym at) ∙ first-written c.args.self.now c.args.pool.now c.args.before s queue e h) c.in_default-write_buffer.ensures.written;
-      written = λ s e. ap (λ (l : List Run). let next : RingState = record { start = i.start; size = i.size; epoch = i.epoch; closed = i.closed; chain = i.chain; text = i.text.items; promised = i.promised; queued = i.queued - 1; buffers = l } in next) left ∙ leaves;
-      queue = λ s queue e.
-          seen-first ring c.args.self.now _ c.args.pool.now c.give_first.new.pool c.self.view_is
-          (holds-first ring i.start i.closed 1 c.give_first.new.buffers.items c.args.pool.now c.give_first.new.pool c.self.invariant.0 refl waits left c.give_first.ensures.bytes) queue;
-      given = omega (arith, c.give_first.ensures.counted, ap length left, length-drop 1 i.buffers.items, here, ap (λ (r : RingState). length r.buffers) c.self.view_is);
+      first = λ s e. record {
+        made = λ queue h.
+            let same : c.in-Some.sequence ≡ s = cc in
+            written-as _ _ _ _ _ _ _ (place ∙ ap (block_at c.args.self.now) same)
+            (ap (bytes_of c.args.pool.now) (sym at) ∙ first-written c.args.self.now c.args.pool.now c.args.before s queue e h) c.in_default-write_buffer.ensures.written;
+        written = ap (λ (l : List Run). let next : RingState = record { start = i.start; size = i.size; epoch = i.epoch; closed = i.closed; chain = i.chain; text = i.text.items; promised = i.promised; queued = i.queued - 1; buffers = l } in next) left ∙ leaves;
+        queue = λ queue.
+            seen-first ring c.args.self.now _ c.args.pool.now c.give_first.new.pool c.self.view_is
+            (holds-first ring i.start i.closed 1 c.give_first.new.buffers.items c.args.pool.now c.give_first.new.pool c.self.invariant.0 refl waits left c.give_first.ensures.gave.bytes) queue;
+      };
+      given = omega (arith, c.give_first.ensures.gave.counted, ap length left, length-drop 1 i.buffers.items, here, ap (λ (r : RingState). length r.buffers) c.self.view_is);
       fault = tt;
       kept = record {
         size = ap (λ (r : RingState). r.size) c.self.view_is;
         epoch = ap (λ (r : RingState). r.epoch) c.self.view_is;
         ring = subst (λ (l : List Run). let next : RingState = record { start = i.start; size = i.size; epoch = i.epoch; closed = i.closed; chain = i.chain; text = i.text.items; promised = i.promised; queued = i.queued - 1; buffers = l } in IsRing next) (sym left) (ring-without_first ring c.self.invariant.0 waits);
-        buffers = c.give_first.ensures.buffers;
-        others = subst (λ (r : RingState). KeepsOthers r.buffers c.args.pool.now c.give_first.new.pool) c.self.view_is c.give_first.ensures.others;
+        buffers = c.give_first.ensures.gave.buffers;
+        others = subst (λ (r : RingState). KeepsRest r.buffers c.args.pool.now c.give_first.new.pool) c.self.view_is c.give_first.ensures.gave.others;
       };
       disk = write_called _ _ _ _ _ c.in_default-write_buffer.ensures.written;
       reads = c.in_default-write_buffer.ensures.written.reads;

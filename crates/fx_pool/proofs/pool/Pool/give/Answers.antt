@@ -1,4 +1,4 @@
-use Rattle.std.proofs.Common.{◌≡◌, ◌∙◌, ◌<◌, ◌+◌, ◌^◌, ℕ, List, Option, Vec, Global, None, Some, get_or, set, length, length-set, ap, sym, refl, subst, arith}
+use Rattle.std.proofs.Common.{rules, ◌≡◌, ◌∙◌, ◌<◌, ◌+◌, ◌^◌, ℕ, List, Option, Vec, Global, None, Some, get_or, set, length, length-set, ap, sym, refl, subst, arith}
 use Rattle.std.proofs.lemmas.Bool.{false≢true}
 use Rattle.fx_pool.specs.Region.{RunBegins, Region, Run, IsDivided}
 use Rattle.fx_pool.proofs.Tables.{HasRun-below, set-other}
@@ -73,8 +73,8 @@ invariant_of-self c =
     (ap (λ (v : Vec ℕ Global). length v.items) c.loop-self.invariant.bytes_same)
     divided
 
-pub returns-clause-sound : goal.returns-clause-sound
-returns-clause-sound c = invariant_of-self c
+pub returns-clause-kept : goal.returns-clause-kept
+returns-clause-kept c = record { order = search rules; bytes = search rules; sound = invariant_of-self c }
 
 pub returns-clause-still_out : goal.returns-clause-still_out
 returns-clause-still_out c run ne out =

@@ -1,4 +1,4 @@
-use Rattle.std.proofs.Common.{◌≡◌, ◌∙◌, ◌<◌, ◌+◌, ◌-◌, ◌^◌, ℕ, List, Option, Vec, Global, None, Some, get_or, set, length, length-set, ap, sym, refl, subst, arith}
+use Rattle.std.proofs.Common.{rules, ◌≡◌, ◌∙◌, ◌<◌, ◌+◌, ◌-◌, ◌^◌, ℕ, List, Option, Vec, Global, None, Some, get_or, set, length, length-set, ap, sym, refl, subst, arith}
 use Rattle.std.proofs.lemmas.Bool.{true≢false}
 use Rattle.std.proofs.Math.Nat.{pow-le-pow_right}
 use Rattle.fx_pool.specs.Region.{RunBegins, Region, IsDivided}
@@ -76,32 +76,32 @@ invariant_of-self c =
 pub returns-clause-none : goal.returns-clause-none
 returns-clause-none c = (λ e. absurd (true≢false e), λ never. absurd (never (record { start = c.in_ok-start.field-0.start; order = c.in_ok-start.field-0.order; at_least = c.in_ok-start.ensures.found.0; free = subst (λ (p : Region). RunBegins p.free c.in_ok-start.field-0.start c.in_ok-start.field-0.order) c.self.view_is c.in_ok-start.ensures.found.2 })))
 
-pub returns-clause-was_free : goal.returns-clause-was_free
-returns-clause-was_free c = record {
-  start = c.in_ok-start.field-0.start;
-  order = c.in_ok-start.field-0.order;
-  free = subst (λ (p : Region). RunBegins p.free c.in_ok-start.field-0.start c.in_ok-start.field-0.order) c.self.view_is c.in_ok-start.ensures.found.2;
-  lowest = λ s k a r. c.in_ok-start.ensures.lowest s k a (subst (λ (p : Region). RunBegins p.free s k) (sym c.self.view_is) r);
-  low = omega arith;
-  high = omega (arith, pow-le-pow_right {n = 2} (omega arith) c.in_ok-start.ensures.found.0);
-}
+pub returns-clause-kept : goal.returns-clause-kept
+returns-clause-kept c = record { order = search rules; bytes = search rules; sound = invariant_of-self c }
 
-pub returns-clause-sound : goal.returns-clause-sound
-returns-clause-sound c = invariant_of-self c
-
-pub returns-clause-is_out : goal.returns-clause-is_out
-returns-clause-is_out c =
+pub returns-clause-taken : goal.returns-clause-taken
+returns-clause-taken c =
     let below : c.in_ok-start.field-0.start < length c.loop-rest.self-inside.out.items = omega (arith, ap (λ (v : Vec (Option ℕ) Global). length v.items) c.loop-rest.invariant.out_same, HasRun-below c.self.inside.free c.in_ok-start.field-0.start c.in_ok-start.field-0.order c.in_ok-start.ensures.found.2, c.self.invariant.out_len, c.self.invariant.free_len) in
-    subst (λ (i : ℕ). RunBegins (set c.loop-rest.self-inside.out.items i (Some c.args.order)) c.in_ok-start.field-0.start c.args.order) (sym c.from.ensures) (set-at c.loop-rest.self-inside.out.items c.in_ok-start.field-0.start c.args.order below)
-
-pub returns-clause-apart : goal.returns-clause-apart
-returns-clause-apart c run out e =
-    let was : RunBegins c.self.inside.out.items run.start run.order = subst (λ (p : Region). RunBegins p.out run.start run.order) (sym c.self.view_is) out in
-    c.self.invariant.divided.exclusive c.in_ok-start.field-0.start c.in_ok-start.field-0.order run.order c.in_ok-start.ensures.found.2 (subst (λ (i : ℕ). RunBegins c.self.inside.out.items i run.order) e was)
+    record {
+      order = search rules;
+      was_free = record {
+        start = c.in_ok-start.field-0.start;
+        order = c.in_ok-start.field-0.order;
+        free = subst (λ (p : Region). RunBegins p.free c.in_ok-start.field-0.start c.in_ok-start.field-0.order) c.self.view_is c.in_ok-start.ensures.found.2;
+        lowest = λ s k a r. c.in_ok-start.ensures.lowest s k a (subst (λ (p : Region). RunBegins p.free s k) (sym c.self.view_is) r);
+        low = omega arith;
+        high = omega (arith, pow-le-pow_right {n = 2} (omega arith) c.in_ok-start.ensures.found.0);
+      };
+      is_out = subst (λ (i : ℕ). RunBegins (set c.loop-rest.self-inside.out.items i (Some c.args.order)) c.in_ok-start.field-0.start c.args.order) (sym c.from.ensures) (set-at c.loop-rest.self-inside.out.items c.in_ok-start.field-0.start c.args.order below);
+      apart = λ run out e.
+          let was : RunBegins c.self.inside.out.items run.start run.order = subst (λ (p : Region). RunBegins p.out run.start run.order) (sym c.self.view_is) out in
+          c.self.invariant.divided.exclusive c.in_ok-start.field-0.start c.in_ok-start.field-0.order run.order c.in_ok-start.ensures.found.2 (subst (λ (i : ℕ). RunBegins c.self.inside.out.items i run.order) e was);
+      out = search rules;
+    }
 
 pub returns-clause-still_out : goal.returns-clause-still_out
 returns-clause-still_out c run out =
     let was : RunBegins c.self.inside.out.items run.start run.order = subst (λ (p : Region). RunBegins p.out run.start run.order) (sym c.self.view_is) out in
     let same : c.loop-rest.self-inside.out.items ≡ c.self.inside.out.items = ap (λ (v : Vec (Option ℕ) Global). v.items) c.loop-rest.invariant.out_same in
     let now : RunBegins c.loop-rest.self-inside.out.items run.start run.order = subst (λ (o : List (Option ℕ)). RunBegins o run.start run.order) (sym same) was in
-    set-other c.loop-rest.self-inside.out.items c.from.result run.start run.order (Some c.args.order) (λ e. returns-clause-apart c run out (e ∙ c.from.ensures)) now
+    set-other c.loop-rest.self-inside.out.items c.from.result run.start run.order (Some c.args.order) (λ e. (returns-clause-taken c).apart run out (e ∙ c.from.ensures)) now
