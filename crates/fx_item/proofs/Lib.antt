@@ -1,3 +1,15 @@
+pub mod Between
+pub mod Covered
 pub mod Fields
+pub mod Follow
 pub mod KeyOrder
+pub mod KeyPlaces
+pub mod Keys
+pub mod Lengths
+pub mod Meetings
+pub mod Overlays
+pub mod PlaceOrder
 pub mod Spelled
+pub mod SpelledKeys
+pub mod SpelledValues
+pub mod Sums

@@ -1,8 +1,11 @@
 pub mod Name
 pub mod Item
 pub mod Order
+pub mod Place
 pub mod Overlay
 pub mod Reading
+pub mod Writing
 pub mod LockKey
 pub mod Look
+pub mod Meeting
 pub mod SpaceRule

@@ -17,5 +17,8 @@ has_byte b text = list_any (λ x. x == b) text
 
 -- 1 to 255 bytes of UTF-8 with no `/` and no NUL, and neither `.` nor `..`
 abbrev pub is_name : List ℕ → Bool
-is_name name = nat_lt 0 (length name) && nat_le (length name) MAX_NAME && not (has_byte 47 name) && not (has_byte 0 name)
-    && not (pointwise nat_eq name (codes ".")) && not (pointwise nat_eq name (codes "..")) && is_utf8 name
+is_name name =
+    nat_lt 0 (length name) && nat_le (length name) MAX_NAME
+    && not (has_byte 47 name) && not (has_byte 0 name)
+    && not (pointwise nat_eq name (codes ".")) && not (pointwise nat_eq name (codes ".."))
+    && is_utf8 name

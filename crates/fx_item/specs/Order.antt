@@ -5,8 +5,8 @@ use Rattle.std.specs.Cmp.Lexicographic.{slice_cmp}
 use Rattle.std.specs.declared.cmp.Ordering.{Ordering}
 use Rattle.fx_item.specs.Item.{PlainKey, ObjectKey, AttributeKey, ExtentKey, ChildKey, GraveKey, AllocationKey, PlainItem}
 
--- A key as numbers that are compared from left to right: the keys of nodes first, by store, id, kind,
--- and name or range; then those of the allocator, by range.
+-- A key as numbers that are compared from left to right: the keys of nodes first, by store, id,
+-- kind, and name or range; then those of the allocator, by range.
 abbrev pub rank : PlainKey → List ℕ
 rank (ObjectKey store id) = 0 ∷ store ∷ id ∷ 1 ∷ []
 rank (AttributeKey store id name) = 0 ∷ store ∷ id ∷ 2 ∷ name
@@ -20,7 +20,8 @@ key_cmp a b = slice_cmp nat_cmp (rank a) (rank b)
 
 -- the ranges of one file, and those of the device, are apart
 abbrev pub is_apart : PlainKey → PlainKey → Bool
-is_apart (ExtentKey s i start stop) (ExtentKey t j next end) = not (s == t && i == j) || nat_le stop next
+is_apart (ExtentKey s i start stop) (ExtentKey t j next end) =
+    not (s == t && i == j) || nat_le stop next
 is_apart (AllocationKey start stop) (AllocationKey next end) = nat_le stop next
 is_apart _ _ = true
 

@@ -5,16 +5,16 @@ use Rattle.fx_item.specs.declared.space.Need.{Need}
 use Rattle.fx_item.specs.declared.space.Beyond.{Beyond}
 use Rattle.fx_item.specs.declared.space.TheConstants.{MAX_GIVEN}
 
--- At most so many layer blocks: 640 bytes for each item of an object and 128 for each data block, in blocks
--- that are at least half full.
+-- At most so many layer blocks: 640 bytes for each item of an object and 128 for each data block,
+-- in blocks that are at least half full.
 abbrev pub layer_bound : (nodes attributes blocks : ℕ) → ℕ
 layer_bound n a b = 8 + (640 * (2 * n + a) + 128 * b + 2047) / 2048
 
 abbrev pub NeedsNothing : Need → Type 0
 NeedsNothing need = (need.nodes ≡ 0) × (need.attributes ≡ 0) × (need.blocks ≡ 0)
 
--- Room by the counts: on a disk of so many blocks with a ring of so many there is place for the data blocks, for
--- those that wait, and for the layers and the ring thrice.
+-- Room by the counts: on a disk of so many blocks with a ring of so many there is place for the
+-- data blocks, for those that wait, and for the layers and the ring thrice.
 abbrev pub FitsCounted : (disk ring nodes attributes blocks waiting : ℕ) → Type 0
 FitsCounted disk ring n a b waiting = b + waiting + 3 * layer_bound n a b + 3 * ring + 2 ≤ disk
 
@@ -26,6 +26,7 @@ HasIds given nodes = given + nodes ≤ MAX_GIVEN
 abbrev pub HasRoom : (disk ring : ℕ) → Sizes → Need → Beyond → Type 0
 HasRoom disk ring tree need beyond =
     NeedsNothing need
-    ⊎ (FitsCounted disk ring (tree.nodes + need.nodes + beyond.nodes) (tree.attributes + need.attributes + beyond.attributes)
+    ⊎ (FitsCounted disk ring (tree.nodes + need.nodes + beyond.nodes)
+    (tree.attributes + need.attributes + beyond.attributes)
     (tree.blocks + need.blocks + beyond.blocks) beyond.waiting
     × HasIds beyond.given need.nodes)

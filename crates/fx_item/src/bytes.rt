@@ -4,7 +4,8 @@ ghost use Rattle.std.specs.Prelude.{◌≡◌, length, IsTrue, ◌↔◌, []};
 use std::alloc::AllocError;
 use std::marker::Model;
 
-/// Bytes, as those of a file or of a script. Made from a `Vec` and given back without taking memory.
+/// Bytes, as those of a file or of a script. Made from a `Vec` and given back without taking
+/// memory.
 #[derive(Debug, Drop)]
 pub struct Bytes {
     items: Vec<u8>,

@@ -1,5 +1,7 @@
 //! What a transaction locks, and how.
 
+use fx_base::List;
+
 /// The key of a node's lock: the node with this id in this store. Ordered by store, then by id.
 #[derive(Clone, Copy, Debug, PartialEq, Eq, PartialOrd, Ord)]
 pub struct LockKey {
@@ -19,3 +21,6 @@ pub enum Mode {
     /// Of a file that is being read.
     Read,
 }
+
+/// Lock keys, one after another.
+pub type KeyList = List<LockKey>;

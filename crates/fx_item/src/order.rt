@@ -1,23 +1,32 @@
 //! The order of keys.
-ghost use Rattle.std.specs.Prelude.{◌≡◌, ◌∷◌, Some, refl, nat_eq};
+ghost use Rattle.std.specs.Prelude.{◌≡◌, Some, refl, nat_eq};
 ghost use Rattle.std.specs.Ordering.{nat_cmp};
 ghost use Rattle.std.specs.Cmp as cmp;
 ghost use Rattle.std.specs.Cmp.Lexicographic.{slice_cmp, pointwise, texts_ties, texts_po, on_texts, on_texts_equal};
 ghost use Rattle.fx_item.specs.Item.{key_of};
-ghost use Rattle.fx_item.specs.Order.{rank, may_follow};
+ghost use Rattle.fx_item.specs.Order.{rank, is_apart, may_follow};
 
 use crate::item::Key;
-use crate::writing::{CHILD, OBJECT};
 use std::cmp::Ordering;
 
 impl Key {
-    /// What keys are compared by: store, id, kind and name.
-    fn parts(&self) -> (u32, u64, u8, &[u8])
-        ensures { 0 ∷ result.0 ∷ result.1 ∷ result.2 ∷ result.3.now ≡ rank (key_of self.now) }
+    /// Whether the ranges of two keys of one file, or of the device, do not overlap, this one's
+    /// being the first. It is so for all other keys.
+    fn is_apart(&self, later: &Key) -> bool
+        ensures { result ≡ is_apart (key_of self.now) (key_of later.now) }
     {
-        match self {
-            Key::Object { store, id } => (*store, *id, OBJECT, &[]),
-            Key::Child { store, id, name } => (*store, *id, CHILD, name.as_slice()),
+        match (self, later) {
+            (
+                Key::Extent { store, id, end, .. },
+                Key::Extent {
+                    store: other_store,
+                    id: other_id,
+                    start,
+                    ..
+                },
+            ) => *store != *other_store || *id != *other_id || *end <= *start,
+            (Key::Allocation { end, .. }, Key::Allocation { start, .. }) => *end <= *start,
+            _ => true,
         }
     }
 
@@ -26,7 +35,7 @@ impl Key {
     pub fn may_precede(&self, later: &Key) -> bool
         ensures { result ≡ may_follow (key_of self.now) (key_of later.now) }
     {
-        self.cmp(later).is_lt()
+        self.cmp(later).is_lt() && self.is_apart(later)
     }
 }
 
@@ -54,6 +63,7 @@ impl PartialOrd for Key {
     }
 }
 
+/// By where keys begin, and then by where they end. At most two comparisons of names.
 impl Ord for Key {
     ghost cmp = { λ a b. slice_cmp nat_cmp (rank (key_of a)) (rank (key_of b)) };
 
@@ -64,9 +74,10 @@ impl Ord for Key {
     ghost matches_eq = { λ x y. texts_ties (rank (key_of x)) (rank (key_of y)) };
 
     fn cmp(&self, other: &Key) -> Ordering {
-        let (store, id, kind, name) = self.parts();
-        let (other_store, other_id, other_kind, other_name) = other.parts();
-        let rest = kind.cmp(&other_kind).then(name.cmp(other_name));
-        store.cmp(&other_store).then(id.cmp(&other_id).then(rest))
+        let begins = self.begins().compare(&other.begins());
+        if begins.is_ne() {
+            return begins;
+        }
+        self.ends().compare(&other.ends())
     }
 }

@@ -2,8 +2,23 @@
 ghost use Rattle.std.specs.Prelude.{◌≡◌, ◌^◌, ◌<◌};
 ghost use Rattle.fx_item.specs.SpaceRule.{layer_bound as layer_bound_of};
 
+use crate::Sizes;
+
 /// The most ids that a mount gives out.
 pub const MAX_GIVEN: u64 = 1 << 23;
+
+/// What a transaction does to the sizes of the tree and of the graveyard.
+#[derive(Clone, Copy, Debug, PartialEq, Eq)]
+pub struct Delta {
+    /// What the tree gains.
+    pub more: Sizes,
+    /// What the tree loses.
+    pub less: Sizes,
+    /// What the graveyard gains.
+    pub buried: Sizes,
+    /// What the graveyard loses.
+    pub reaped: Sizes,
+}
 
 /// What a transaction adds at most.
 #[derive(Clone, Copy, Debug, Default, PartialEq, Eq)]
@@ -29,7 +44,8 @@ pub struct Beyond {
     pub given: u64,
 }
 
-/// At most so many blocks are layer blocks of a tree with so many nodes, attributes and data blocks.
+/// At most so many blocks are layer blocks of a tree with so many nodes, attributes and data
+/// blocks.
 pub fn layer_bound(nodes: u64, attributes: u64, blocks: u64) -> u64
     requires nodes { nodes < 2 ^ 48 }
     requires attributes { attributes < 2 ^ 48 }
