@@ -61,10 +61,10 @@ tree_at_end t h n below = ap (fold tree_after t) (filter_all (λ x. nat_le x.num
 pub below_end : (t : Tree) (base : ℕ) (h : List Entry) (n : ℕ) → Legal t base h → base + length h ≤ n → (i : ℕ) (x : Entry) → slice_get h i ≡ Some x → x.number ≤ n
 below_end t base h n k l i x e = omega (arith, k.numbered i x e, slice_get_within h i x e)
 
--- one commit more
-pub legal_more : (t : Tree) (base : ℕ) (h : List Entry) (e : Entry) → Legal t base h → e.number ≡ base + length h + 1 → e.settled ≡ 0 → 0 < e.who
+-- one commit more, of a client or of upkeep
+pub legal_next : (t : Tree) (base : ℕ) (h : List Entry) (e : Entry) → Legal t base h → e.number ≡ base + length h + 1 → e.settled ≡ 0 → (e.who ≡ 0 → e.steps ≡ [])
     → IsOk (do_all (tree_at t h (base + length h)) e.steps) → Legal t base (h ++ e ∷ [])
-legal_more t base h e k number settled who ok = record {
+legal_next t base h e k number settled upkeep ok = record {
   numbered = λ i x got. elim (got_split h e i x got) [
     | inl old ↦ k.numbered i x old
     | inr new ↦ subst (λ (y : Entry). y.number ≡ base + i + 1) new.1 (omega (arith, number, new.0))
@@ -78,7 +78,7 @@ legal_more t base h e k number settled who ok = record {
   ];
   upkeep = λ i x got zero_who. elim (got_split h e i x got) [
     | inl old ↦ k.upkeep i x old zero_who
-    | inr new ↦ absurd (omega (arith, who, ap (λ (y : Entry). y.who) new.1, zero_who))
+    | inr new ↦ ap (λ (y : Entry). y.steps) (sym new.1) ∙ upkeep (ap (λ (y : Entry). y.who) new.1 ∙ zero_who)
   ];
   settles = λ i j x y before gotx goty later. elim (got_split h e j y goty) [
     | inl old ↦ elim (got_split h e i x gotx) [
@@ -88,6 +88,11 @@ legal_more t base h e k number settled who ok = record {
     | inr new ↦ absurd (omega (arith, settled, ap (λ (z : Entry). z.settled) new.1, later))
   ];
 }
+
+-- one commit more of a client
+pub legal_more : (t : Tree) (base : ℕ) (h : List Entry) (e : Entry) → Legal t base h → e.number ≡ base + length h + 1 → e.settled ≡ 0 → 0 < e.who
+    → IsOk (do_all (tree_at t h (base + length h)) e.steps) → Legal t base (h ++ e ∷ [])
+legal_more t base h e k number settled who ok = legal_next t base h e k number settled (λ zero_who. absurd (omega (arith, who, zero_who))) ok
 
 pub legal_none : (t : Tree) (base : ℕ) → Legal t base []
 legal_none t base = record {

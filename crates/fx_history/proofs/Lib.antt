@@ -1,3 +1,4 @@
 pub mod Histories
 pub mod Settling
 pub mod Sessions
+pub mod Reading

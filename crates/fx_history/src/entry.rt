@@ -1,8 +1,7 @@
 //! Entries of the history.
-ghost use Rattle.std.specs.Prelude.{◌≡◌};
 
+use fx_base::List;
 use fx_plain::Steps;
-use std::marker::Model;
 
 /// One commit.
 #[derive(Debug, Drop)]
@@ -20,39 +19,4 @@ pub struct Entry {
 }
 
 /// What was committed, in the order of its numbers.
-#[derive(Debug, Drop)]
-pub struct History {
-    entries: Vec<Entry>,
-}
-
-impl Model for History {
-    ghost use Rattle.std.specs.Prelude.{List};
-    ghost use Rattle.fx_history.specs.declared.entry.Entry.{Entry};
-
-    ghost Value = { List Entry };
-
-    ghost view = { λ h. h.entries.items };
-}
-
-impl History {
-    /// These entries.
-    pub fn new(entries: Vec<Entry>) -> History
-        ensures { result ≡ entries.items }
-    {
-        History { entries }
-    }
-
-    /// The entries as a slice.
-    pub fn as_slice(&self) -> &[Entry]
-        ensures { result.now ≡ self.now }
-    {
-        self.entries.as_slice()
-    }
-
-    /// The vector that holds them.
-    pub fn into_vec(self) -> Vec<Entry>
-        ensures { result.items ≡ self }
-    {
-        self.entries
-    }
-}
+pub type History = List<Entry>;

@@ -8,7 +8,7 @@ mod text;
 
 pub use entry::{Entry, History};
 pub use outcome::{EndKind, Outcome, Outcomes};
-pub use text::result_text;
+pub use text::{line_laws, result_text};
 
 #[cfg(test)]
 mod tests;

@@ -1,6 +1,7 @@
 //! How lines end.
 ghost use Rattle.std.specs.Prelude.{◌≡◌};
 
+use fx_base::List;
 use fx_item::Full;
 use fx_plain::{Answer, Refusal};
 use std::marker::Model;
@@ -64,39 +65,4 @@ impl Outcome {
 }
 
 /// How the lines ended, in the order of the lines.
-#[derive(Debug, Drop)]
-pub struct Outcomes {
-    items: Vec<Outcome>,
-}
-
-impl Model for Outcomes {
-    ghost use Rattle.std.specs.Prelude.{List};
-    ghost use Rattle.fx_history.specs.Outcome.{LineEnd};
-
-    ghost Value = { List LineEnd };
-
-    ghost view = { λ o. o.items.items };
-}
-
-impl Outcomes {
-    /// These outcomes.
-    pub fn new(items: Vec<Outcome>) -> Outcomes
-        ensures { result ≡ items.items }
-    {
-        Outcomes { items }
-    }
-
-    /// The outcomes as a slice.
-    pub fn as_slice(&self) -> &[Outcome]
-        ensures { result.now ≡ self.now }
-    {
-        self.items.as_slice()
-    }
-
-    /// The vector that holds them.
-    pub fn into_vec(self) -> Vec<Outcome>
-        ensures { result.items ≡ self }
-    {
-        self.items
-    }
-}
+pub type Outcomes = List<Outcome>;

@@ -81,5 +81,6 @@ fn each_end_is_printed(rt: HostRuntime) -> Result<(), Fail> {
     assert_eq!(rt; (outcomes.len(), tasks.len() as usize), (13, 13));
     let text = result_text(alloc, &tasks, outcomes.as_slice())?;
     assert_eq!(rt; text.as_str(), wanted.as_str());
+    line_laws();
     Ok(())
 }

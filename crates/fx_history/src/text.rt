@@ -1,6 +1,14 @@
 //! The result lines, as they are printed.
-ghost use Rattle.std.specs.Prelude.{◌≡◌, ◌++◌, length, IfOk, OnOk};
+ghost use Rattle.std.specs.Prelude.{◌≡◌, ◌++◌, ℕ, List, length, IfOk, OnOk};
 ghost use Rattle.std.specs.String.{string_bytes};
+ghost use Rattle.fx_history.specs.Outcome.{LineEnd};
+ghost use Rattle.fx_history.specs.Told.{LineIsWhole, TellSame, told};
+ghost use Rattle.fx_history.specs.Transcript.{IsAnswered};
+ghost use Rattle.fx_history.specs.declared.entry.Entry.{Entry};
+ghost use Rattle.fx_history.specs.declared.outcome.EndKind.TheVariants.{Seen};
+ghost use Rattle.fx_plain.specs.Tree.{Tree};
+ghost use Rattle.fx_plain.specs.declared.step.Answer.{Answer};
+ghost use Rattle.fx_script.specs.declared.script.Task.{Task};
 ghost use Rattle.fx_history.specs.Text.{read_text, spaced_names, list_text, stat_text, seen_text, end_text, result_line, result_text};
 
 use crate::outcome::{EndKind, Outcome};
@@ -122,3 +130,19 @@ pub fn result_text(alloc: Global, tasks: &Tasks, outcomes: &[Outcome]) -> Result
     }
     Ok(text)
 }
+
+/// What a result line tells: two lines with one text are of one client, with one number, and ended
+/// at one commit, as far as a line tells it, in the same way; and such lines have one text. Of an
+/// answer that is right a line leaves nothing out.
+pub fn line_laws()
+    ensures read { (task other : Task) (first second : LineEnd)
+        → LineIsWhole task first → LineIsWhole other second
+        → result_line task first ≡ result_line other second
+        → TellSame task other first second }
+    ensures printed { (task other : Task) (first second : LineEnd)
+        → TellSame task other first second
+        → result_line task first ≡ result_line other second }
+    ensures answered { (tree : Tree) (history : List Entry) (task : Task) (at : ℕ)
+        (answer : Answer) → IsAnswered tree history task at (Seen answer)
+        → told (Seen answer) ≡ Seen answer }
+{}

@@ -8,7 +8,7 @@ use Rattle.std.specs.Ordering.{eq_by_cmp}
 use Rattle.fx_plain.specs.Node.{Attributes, Contents, Node, Dir, File, empty_dir, empty_file, written}
 use Rattle.fx_plain.specs.Tree.{IsTree, Tree, path_cmp, root}
 use Rattle.fx_plain.specs.Table.{do_step, place, walk, write_at}
-use Rattle.fx_plain.specs.Bare.{IsCreated, IsMade, IsWritten, bare, bare_node}
+use Rattle.fx_plain.specs.Bare.{IsCreated, IsPlaced, IsWritten, bare, bare_node}
 use Rattle.fx_plain.specs.declared.contents.TheConstants.{MAX_FILE}
 use Rattle.fx_plain.specs.declared.step.Step.TheVariants.{Mkdir, Create, Write}
 use Rattle.fx_plain.specs.declared.step.Answer.{Answer}
@@ -74,7 +74,7 @@ not_done : (refusal : Refusal) (answer : Answer) → (let a : Result Answer Refu
 not_done refusal answer e = cc e
 
 made : (tree : Tree) (first : List ℕ) (names : Path) (node : Node) (answer : Answer) → bare_node node ≡ node → (way : Option Refusal) (there : Option Node) → walk tree (first ∷ names) ≡ way → get tree (first ∷ names) ≡ there
-    → (place tree (first ∷ names) node way there).0 ≡ Ok answer → IsMade tree (first ∷ names) node (place tree (first ∷ names) node way there).1
+    → (place tree (first ∷ names) node way there).0 ≡ Ok answer → IsPlaced tree (first ∷ names) node (place tree (first ∷ names) node way there).1
 made tree first names node answer same (Some refusal) there e f done = absurd (cc done)
 made tree first names node answer same None (Some other) e f done = absurd (cc done)
 made tree first names node answer same None None e f done =
@@ -92,7 +92,7 @@ made tree first names node answer same None None e f done =
     }
 
 -- a directory that was made
-pub mkdir_made : (tree : Tree) (path : Path) (answer : Answer) → (do_step tree (Mkdir path)).0 ≡ Ok answer → IsMade tree path empty_dir (do_step tree (Mkdir path)).1
+pub mkdir_made : (tree : Tree) (path : Path) (answer : Answer) → (do_step tree (Mkdir path)).0 ≡ Ok answer → IsPlaced tree path empty_dir (do_step tree (Mkdir path)).1
 mkdir_made tree [] answer done = absurd (cc done)
 mkdir_made tree (first ∷ names) answer done = made tree first names empty_dir answer refl (walk tree (first ∷ names)) (get tree (first ∷ names)) refl refl done
 

@@ -18,7 +18,7 @@ use Rattle.std.specs.declared.cmp.Ordering.{Ordering}
 use Rattle.std.specs.declared.cmp.Ordering.TheVariants.{Less, Equal, Greater}
 use Rattle.fx_item.specs.Name.{name_cmp}
 use Rattle.fx_plain.specs.Tree.{Tree, child_name, children, path_cmp}
-use Rattle.fx_plain.specs.Listing.{GoesOn, IsBelow, IsFirst, children_from, past_child, paths_from}
+use Rattle.fx_plain.specs.Listing.{NextName, IsChildPath, IsFirst, children_from, past_child, paths_from}
 use Rattle.fx_plain.proofs.Paths.{paths_total, paths_exact}
 use Rattle.fx_plain.proofs.Order.{above_itself, between, up_to_less, less_up_to, next_up_to, not_below_itself, same_front, up_to}
 
@@ -319,7 +319,7 @@ module _ (tree : Tree) (directory : Path) (first : Name) where
     joined false rest = refl
 
     -- the paths go on with this name, and after it with those that are past it
-    pub goes_on : GoesOn tree directory from name (length deeper == 0)
+    pub goes_on : NextName tree directory from name (length deeper == 0)
     goes_on = record {
       names =
           ap (filter_map (child_name directory)) starts.1
@@ -332,12 +332,12 @@ module _ (tree : Tree) (directory : Path) (first : Name) where
 
 -- ---- the same, where the place is known to be below the directory
 
-pub none_on : (tree : Tree) (directory from k : Path) → IsBelow directory from → IsFirst k (paths_from tree from) → ((name : Name) (deeper : Path) → k ≢ directory ++ name ∷ deeper) → children_from tree directory from ≡ []
+pub none_on : (tree : Tree) (directory from k : Path) → IsChildPath directory from → IsFirst k (paths_from tree from) → ((name : Name) (deeper : Path) → k ≢ directory ++ name ∷ deeper) → children_from tree directory from ≡ []
 none_on tree directory place k below starts out = subst (λ f. IsFirst k (paths_from tree f) → children_from tree directory f ≡ []) (sym below.1) (λ first. none_left tree directory below.0 k first out) starts
 
-pub next_on : (tree : Tree) (directory from : Path) (name : Name) (deeper k : Path) → IsBelow directory from → k ≡ directory ++ name ∷ deeper → IsFirst k (paths_from tree from) → GoesOn tree directory from name (length deeper == 0)
+pub next_on : (tree : Tree) (directory from : Path) (name : Name) (deeper k : Path) → IsChildPath directory from → k ≡ directory ++ name ∷ deeper → IsFirst k (paths_from tree from) → NextName tree directory from name (length deeper == 0)
 next_on tree directory place name deeper k below is starts =
-    subst (λ f. IsFirst (directory ++ name ∷ deeper) (paths_from tree f) → GoesOn tree directory f name (length deeper == 0)) (sym below.1) (goes_on tree directory below.0 name deeper) (subst (λ q. IsFirst q (paths_from tree place)) is starts)
+    subst (λ f. IsFirst (directory ++ name ∷ deeper) (paths_from tree f) → NextName tree directory f name (length deeper == 0)) (sym below.1) (goes_on tree directory below.0 name deeper) (subst (λ q. IsFirst q (paths_from tree place)) is starts)
 
 -- a path without the directory's names in front, or no longer than they are, does not go on from it
 pub not_stripped : (k directory : Path) → pointwise (pointwise nat_eq) (take (length directory) k) directory ≡ false → (name : Name) (deeper : Path) → k ≢ directory ++ name ∷ deeper
@@ -353,7 +353,7 @@ not_longer k directory rest is none name deeper e = omega (arith, ap length (sym
 
 -- the names so far and those of the children from `place` on are all
 pub record IsListing (tree : Tree) (directory : Path) (names : List Name) (place : Path) : Type 0 where
-  pub below : IsBelow directory place
+  pub below : IsChildPath directory place
   pub all : names ++ children_from tree directory place ≡ children tree directory
 
 pub listing_begins : (tree : Tree) (directory : Path) (names : List Name) (place front : Path) (first : Name) → names ≡ [] → place ≡ front ++ first ∷ [] → front ≡ directory → first ≡ [] → IsListing tree directory names place
@@ -368,10 +368,10 @@ last_set : (directory : Path) (x y : Name) → set (directory ++ x ∷ []) (leng
 last_set [] x y = refl
 last_set (d ∷ directory) x y = ap (λ p. d ∷ p) (last_set directory x y)
 
-pub gone_past : (directory place : Path) (name : Name) → IsBelow directory place → set place (length directory) (name ++ 0 ∷ []) ≡ past_child directory name
+pub gone_past : (directory place : Path) (name : Name) → IsChildPath directory place → set place (length directory) (name ++ 0 ∷ []) ≡ past_child directory name
 gone_past directory place name below = ap (λ p. set p (length directory) (name ++ 0 ∷ [])) below.1 ∙ last_set directory below.0 (name ++ 0 ∷ [])
 
-pub listing_goes_on : (tree : Tree) (directory : Path) (names more : List Name) (place next : Path) (name : Name) (is_child : Bool) → IsListing tree directory names place → GoesOn tree directory place name is_child
+pub listing_goes_on : (tree : Tree) (directory : Path) (names more : List Name) (place next : Path) (name : Name) (is_child : Bool) → IsListing tree directory names place → NextName tree directory place name is_child
     → more ≡ names ++ (if is_child then name ∷ [] else []) → next ≡ set place (length directory) (name ++ 0 ∷ []) → IsListing tree directory more next
 listing_goes_on tree directory names more place next name is_child listing step added moved =
     let past : next ≡ past_child directory name = moved ∙ gone_past directory place name listing.below in
@@ -383,12 +383,12 @@ listing_goes_on tree directory names more place next name is_child listing step 
           ∙ ap (λ rest. names ++ rest) (sym step.names) ∙ listing.all;
     }
 
-pub fewer_paths : (tree : Tree) (directory : Path) (place next : Path) (name : Name) (is_child : Bool) → IsBelow directory place → GoesOn tree directory place name is_child → next ≡ set place (length directory) (name ++ 0 ∷ [])
+pub fewer_paths : (tree : Tree) (directory : Path) (place next : Path) (name : Name) (is_child : Bool) → IsChildPath directory place → NextName tree directory place name is_child → next ≡ set place (length directory) (name ++ 0 ∷ [])
     → length (paths_from tree next) < length (paths_from tree place)
 fewer_paths tree directory place later name is_child below step moved = subst (λ p. length (paths_from tree p) < length (paths_from tree place)) (sym (moved ∙ gone_past directory place name below)) step.fewer
 
 pub listing_ends : (tree : Tree) (directory : Path) (names : List Name) (place : Path) → IsListing tree directory names place → children_from tree directory place ≡ [] → names ≡ children tree directory
 listing_ends tree directory names place listing none = sym (append-nil names) ∙ ap (λ rest. names ++ rest) (sym none) ∙ listing.all
 
-pub has_last : (directory place : Path) → IsBelow directory place → length directory < length place
+pub has_last : (directory place : Path) → IsChildPath directory place → length directory < length place
 has_last directory place below = omega (arith, ap length below.1, length-append directory (below.0 ∷ []))

@@ -4,7 +4,7 @@ use Rattle.std.proofs.Math.ListN.{length-replicate}
 use Rattle.std.specs.List.{range_with_len}
 use Rattle.std.specs.FinSet as set
 use Rattle.fx_plain.specs.Node.{grown, overwritten, written}
-use Rattle.fx_plain.specs.declared.contents.TheConstants.{BLOCK_BYTES}
+use Rattle.fx_base.specs.declared.block.TheConstants.{BLOCK_BYTES}
 use Rattle.fx_plain.specs.Memory.{marked}
 use Rattle.fx_plain.proofs.Marks.{marked-append, marked-set}
 

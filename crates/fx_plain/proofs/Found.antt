@@ -6,7 +6,7 @@ use Rattle.std.specs.Map.{keys_of}
 use Rattle.std.specs.Ordering.{is_le}
 use Rattle.fx_plain.specs.Node.{Node}
 use Rattle.fx_plain.specs.Tree.{path_cmp}
-use Rattle.fx_plain.specs.Memory.{by_path, tree_of}
+use Rattle.fx_plain.specs.Memory.{path_entries, tree_of}
 use Rattle.fx_plain.specs.Listing.{IsFirst, paths_from}
 use Rattle.fx_plain.proofs.Sizes.{entries-tree_of}
 use Rattle.fx_plain.proofs.Views.{Entries, Key, key_cmp}
@@ -14,11 +14,11 @@ use Rattle.fx_plain.proofs.Views.{Entries, Key, key_cmp}
 paths_of : Entries → List (List (List ℕ))
 paths_of es = map (λ (e : Key × Node). e.0.items) es
 
-filtered : (from : Key) (es : Entries) → filter (λ path. is_le (path_cmp from.items path)) (map (λ e. e.0) (by_path es)) ≡ paths_of (filter (λ e. is_le (key_cmp from e.0) && not false) es)
+filtered : (from : Key) (es : Entries) → filter (λ path. is_le (path_cmp from.items path)) (map (λ e. e.0) (path_entries es)) ≡ paths_of (filter (λ e. is_le (key_cmp from e.0) && not false) es)
 unfolding paths_of
 filtered from [] = refl
 filtered from (e ∷ es) =
-    elim (is_le (path_cmp from.items e.0.items)) as (λ b. cond b (e.0.items ∷ filter (λ path. is_le (path_cmp from.items path)) (map (λ e. e.0) (by_path es))) (filter (λ path. is_le (path_cmp from.items path)) (map (λ e. e.0) (by_path es)))
+    elim (is_le (path_cmp from.items e.0.items)) as (λ b. cond b (e.0.items ∷ filter (λ path. is_le (path_cmp from.items path)) (map (λ e. e.0) (path_entries es))) (filter (λ path. is_le (path_cmp from.items path)) (map (λ e. e.0) (path_entries es)))
     ≡ paths_of (cond (b && not false) (e ∷ filter (λ e. is_le (key_cmp from e.0) && not false) es) (filter (λ e. is_le (key_cmp from e.0) && not false) es))) [
       | true ↦ ap (λ rest. e.0.items ∷ rest) (filtered from es)
       | false ↦ filtered from es

@@ -1,6 +1,8 @@
 -- What a step adds to the sizes of a tree.
 use Rattle.std.proofs.Common.{◌≡◌, ℕ, suc, ◌+◌, ◌≤◌, List, [], ◌∷◌, length, refl, sym, ap, ◌∙◌, cond, Bool, true, false, arith, sum_by}
-use Rattle.std.specs.Prelude.{map, ◌/◌, ◌-◌, Option, None, Some, Result, Ok, Err, nat_lt, ◌||◌, is_some}
+use Rattle.std.proofs.lemmas.List.{length-map}
+use Rattle.std.specs.List.{cons_option}
+use Rattle.std.specs.Prelude.{map, filter_map, ◌/◌, ◌-◌, Option, None, Some, Result, Ok, Err, nat_lt, ◌||◌, is_some}
 use Rattle.std.specs.Cmp.{tied_itself, nat_cmp_total}
 use Rattle.std.specs.declared.cmp.Ordering.{Ordering}
 use Rattle.std.specs.declared.cmp.Ordering.TheVariants.{Less, Equal, Greater}
@@ -14,11 +16,12 @@ use Rattle.std.proofs.lemmas.List.Sums.{sum_by-cons}
 use Rattle.std.proofs.lemmas.List.FromFn.{length-range_with_len}
 use Rattle.fx_item.specs.declared.Sizes.{Sizes}
 use Rattle.fx_item.specs.Name.{name_cmp}
-use Rattle.fx_plain.specs.Node.{Attributes, Blocks, Contents, Node, Dir, File, covered, empty_dir, empty_file, written}
-use Rattle.fx_plain.specs.Tree.{Tree, attribute_count, held_count, path_cmp, root, sizes_of}
+use Rattle.fx_plain.specs.Node.{Attributes, Blocks, Contents, Node, Dir, File, covered, empty_dir, empty_file, file_blocks, written}
+use Rattle.fx_plain.specs.Tree.{Tree, attribute_count, child_name, children, held_count, node_count, path_cmp, root, sizes_of}
 use Rattle.fx_plain.specs.Table.{create, do_step, mkdir, place, walk, write_at}
-use Rattle.fx_plain.specs.Growth.{Grows, IsWithin, file_blocks, new_nodes, tree_after}
-use Rattle.fx_plain.specs.declared.contents.TheConstants.{BLOCK_BYTES, MAX_FILE}
+use Rattle.fx_plain.specs.Growth.{Grows, SizesWithin, new_nodes, tree_after_steps}
+use Rattle.fx_base.specs.declared.block.TheConstants.{BLOCK_BYTES}
+use Rattle.fx_plain.specs.declared.contents.TheConstants.{MAX_FILE}
 use Rattle.fx_plain.specs.declared.step.Step.{Step}
 use Rattle.fx_plain.specs.declared.step.Step.TheVariants.{Mkdir, Create, Write, Read, List as ListStep, Stat as StatStep}
 use Rattle.fx_plain.specs.declared.step.Answer.{Answer}
@@ -195,10 +198,66 @@ Grows-do_step tree (Read path at count) = let a = kept 0 0 tree in record { node
 Grows-do_step tree (ListStep path) = let a = kept 0 0 tree in record { nodes = a.nodes; attributes = a.attributes; blocks = a.blocks; file = a.file }
 Grows-do_step tree (StatStep path) = let a = kept 0 0 tree in record { nodes = a.nodes; attributes = a.attributes; blocks = a.blocks; file = a.file }
 
+-- ---- the number of nodes
+
+pub node_count-root : node_count root ≡ 1
+node_count-root =
+    let len = inserted_len finite.empty [] empty_dir None (finite.get-empty path_cmp []) in
+    let no_len = finite.len-empty path_cmp Node in
+    omega arith
+
+pub node_count-insert : (tree : Tree) (p : Path) (node : Node) → node_count (insert tree p node) ≤ node_count tree + 1
+node_count-insert tree p node = by (is_some (get tree p)) (inserted_len tree p node (get tree p) refl)
+  where
+    by : (b : Bool) → finite.len (insert tree p node) ≡ cond b (finite.len tree) (finite.len tree + 1) → finite.len (insert tree p node) ≤ finite.len tree + 1
+    by true e = omega arith
+    by false e = omega arith
+
+placed_count : (tree : Tree) (p : Path) (node : Node) (way : Option Refusal) (there : Option Node) → node_count (place tree p node way there).1 ≤ node_count tree + 1
+placed_count tree p node (Some refusal) there = omega arith
+placed_count tree p node None (Some other) = omega arith
+placed_count tree p node None None = node_count-insert tree p node
+
+written_count : (tree : Tree) (p : Path) (at : ℕ) (text : List ℕ) (way : Option Refusal) (there : Option Node) → get tree p ≡ there → node_count (write_at tree p at text way there).1 ≤ node_count tree + 0
+written_count tree p at text (Some refusal) there is = omega arith
+written_count tree p at text None None is = omega arith
+written_count tree p at text None (Some (Dir attributes)) is = omega arith
+written_count tree p at text None (Some (File contents attributes)) is = by (nat_lt MAX_FILE (at + length text))
+  where
+    node : Node
+    node = File (written at text contents) attributes
+
+    by : (b : Bool) → node_count (cond b (let a : Result Answer Refusal × Tree = (Err TooLong, tree) in a) (Ok Done, insert tree p node)).1 ≤ node_count tree + 0
+    by true = omega arith
+    by false = omega (arith, inserted_len tree p node (Some (File contents attributes)) is)
+
+pub node_count-do_step : (tree : Tree) (step : Step) → node_count (do_step tree step).1 ≤ node_count tree + new_nodes step
+node_count-do_step tree (Mkdir []) = omega arith
+node_count-do_step tree (Mkdir (n ∷ ns)) = placed_count tree (n ∷ ns) empty_dir (walk tree (n ∷ ns)) (get tree (n ∷ ns))
+node_count-do_step tree (Create []) = omega arith
+node_count-do_step tree (Create (n ∷ [])) = omega arith
+node_count-do_step tree (Create (n ∷ m ∷ ns)) = placed_count tree (n ∷ m ∷ ns) empty_file (walk tree (n ∷ m ∷ ns)) (get tree (n ∷ m ∷ ns))
+node_count-do_step tree (Write path at text) = written_count tree path at text (walk tree path) (get tree path) refl
+node_count-do_step tree (Read path at count) = omega arith
+node_count-do_step tree (ListStep path) = omega arith
+node_count-do_step tree (StatStep path) = omega arith
+
+-- no directory has more children than the tree has nodes
+pub few_children : (tree : Tree) (p : Path) → length (children tree p) ≤ node_count tree
+few_children tree p = omega (arith, fewer (child_name p) (finite.keys tree), finite.len-entries tree, length-map (finite.entries tree) (λ (e : Path × Node). e.0))
+  where
+    fewer : {A B : Type 0} (h : A → Option B) (xs : List A) → length (filter_map h xs) ≤ length xs
+    fewer h [] = omega arith
+    fewer h (x ∷ xs) = kept (h x) (filter_map h xs) (fewer h xs)
+      where
+        kept : {B : Type 0} (o : Option B) (ys : List B) → length ys ≤ length xs → length (cons_option o ys) ≤ suc (length xs)
+        kept None ys le = omega arith
+        kept (Some y) ys le = omega arith
+
 -- ---- many steps
 
-pub IsWithin-root : IsWithin 0 (sizes_of root)
-IsWithin-root =
+pub SizesWithin-root : SizesWithin 0 (sizes_of root)
+SizesWithin-root =
     let none = finite.get-empty path_cmp [] in
     let len = inserted_len finite.empty [] empty_dir None none in
     let no_len = finite.len-empty path_cmp Node in
@@ -215,7 +274,7 @@ IsWithin-root =
     empty_values : finite.values (finite.empty {K = Path} {X = Node} {R = path_cmp}) ≡ []
     empty_values = ap (map (λ (e : Path × Node). e.1)) (no_entries _ (sym (finite.len-entries finite.empty) ∙ finite.len-empty path_cmp Node))
 
-one_more : (n : ℕ) (step : Step) (old new : Sizes) → IsWithin n old → Grows step old new → IsWithin (suc n) new
+one_more : (n : ℕ) (step : Step) (old new : Sizes) → SizesWithin n old → Grows step old new → SizesWithin (suc n) new
 one_more n step old new within grows = record {
   nodes = omega (arith, few step);
   attributes = omega arith;
@@ -230,13 +289,13 @@ one_more n step old new within grows = record {
     few (ListStep path) = omega arith
     few (StatStep path) = omega arith
 
-after : (n : ℕ) (tree : Tree) (steps : List Step) → IsWithin n (sizes_of tree) → IsWithin (length steps + n) (sizes_of (tree_after tree steps))
+after : (n : ℕ) (tree : Tree) (steps : List Step) → SizesWithin n (sizes_of tree) → SizesWithin (length steps + n) (sizes_of (tree_after_steps tree steps))
 after n tree [] within = record { nodes = omega arith; attributes = within.attributes; blocks = omega arith }
 after n tree (step ∷ steps) within =
     let later = after (suc n) (do_step tree step).1 steps (one_more n step (sizes_of tree) (sizes_of (do_step tree step).1) within (Grows-do_step tree step)) in
     record { nodes = omega arith; attributes = later.attributes; blocks = omega arith }
 
-pub IsWithin-after : (steps : List Step) → IsWithin (length steps) (sizes_of (tree_after root steps))
-IsWithin-after steps =
-    let all = after 0 root steps IsWithin-root in
+pub SizesWithin-after : (steps : List Step) → SizesWithin (length steps) (sizes_of (tree_after_steps root steps))
+SizesWithin-after steps =
+    let all = after 0 root steps SizesWithin-root in
     record { nodes = omega arith; attributes = all.attributes; blocks = omega arith }

@@ -11,3 +11,4 @@ pub mod Writes
 pub mod Trees
 pub mod Bare
 pub mod Growth
+pub mod Copies

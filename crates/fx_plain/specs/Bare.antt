@@ -15,7 +15,7 @@ bare tree = finite.from_entries (map (λ e. (e.0, bare_node e.1)) (finite.entrie
 
 -- a bare node stands at the path after the step; before it nothing stood there, and the path above
 -- was a directory
-pub record IsMade (tree : Tree) (path : List (List ℕ)) (node : Node) (after : Tree) : Type 0 where
+pub record IsPlaced (tree : Tree) (path : List (List ℕ)) (node : Node) (after : Tree) : Type 0 where
   pub above : List (List ℕ)
   pub name : List ℕ
   pub path_is : path ≡ above ++ name ∷ []
@@ -27,7 +27,7 @@ pub record IsMade (tree : Tree) (path : List (List ℕ)) (node : Node) (after : 
 
 -- an empty file stands there, below a volume
 pub record IsCreated (tree : Tree) (path : List (List ℕ)) (after : Tree) : Type 0 where
-  pub made : IsMade tree path empty_file after
+  pub made : IsPlaced tree path empty_file after
   pub in_volume : made.above ≢ []
 
 -- the file at the path holds the text, and nothing else changed

@@ -27,10 +27,10 @@ pub of_parts-parts : (node : Node) → of_parts (parts node) ≡ node
 of_parts-parts (Dir attributes) = refl
 of_parts-parts (File contents attributes) = refl
 
-abbrev pub node_code : Coded Node
-node_code =
+abbrev pub tree_node_code : Coded Node
+tree_node_code =
     code_by (Attributes ⊎ (Contents × Attributes))
     (coded⊎ attributes_code (coded× contents_code attributes_code)) parts of_parts of_parts-parts
 
 abbrev pub tree_code : Coded Tree
-tree_code = map.code (coded_list (coded_list coded_ℕ)) node_code
+tree_code = map.code (coded_list (coded_list coded_ℕ)) tree_node_code

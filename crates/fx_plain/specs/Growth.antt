@@ -1,10 +1,9 @@
 -- What a step adds to the sizes of a tree.
-use Rattle.std.specs.Prelude.{◌≡◌, ℕ, ◌+◌, ◌*◌, ◌/◌, ◌≤◌, List, [], ◌∷◌, length}
+use Rattle.std.specs.Prelude.{◌≡◌, ℕ, ◌+◌, ◌*◌, ◌≤◌, List, [], ◌∷◌, length}
 use Rattle.fx_item.specs.declared.Sizes.{Sizes}
-use Rattle.fx_plain.specs.Node.{covered}
+use Rattle.fx_plain.specs.Node.{covered, file_blocks}
 use Rattle.fx_plain.specs.Tree.{Tree}
 use Rattle.fx_plain.specs.Table.{do_step}
-use Rattle.fx_plain.specs.declared.contents.TheConstants.{BLOCK_BYTES, MAX_FILE}
 use Rattle.fx_plain.specs.declared.step.Step.{Step}
 use Rattle.fx_plain.specs.declared.step.Step.TheVariants.{Mkdir, Create, Write, Read, List as ListStep, Stat as StatStep}
 
@@ -26,10 +25,6 @@ new_blocks (Read path at count) = 0
 new_blocks (ListStep path) = 0
 new_blocks (StatStep path) = 0
 
--- the blocks of the longest file
-abbrev pub file_blocks : ℕ
-file_blocks = MAX_FILE / BLOCK_BYTES
-
 -- what the step adds, at most: its nodes and its blocks, never more blocks than a file has, and no
 -- attributes
 pub record Grows (step : Step) (old new : Sizes) : Type 0 where
@@ -39,12 +34,12 @@ pub record Grows (step : Step) (old new : Sizes) : Type 0 where
   pub file : new.blocks ≤ old.blocks + file_blocks
 
 -- the tree after the steps, of which each was done or refused
-abbrev pub tree_after : Tree → List Step → Tree
-tree_after tree [] = tree
-tree_after tree (step ∷ steps) = tree_after (do_step tree step).1 steps
+abbrev pub tree_after_steps : Tree → List Step → Tree
+tree_after_steps tree [] = tree
+tree_after_steps tree (step ∷ steps) = tree_after_steps (do_step tree step).1 steps
 
 -- what a tree holds at most, so many steps after the root alone
-pub record IsWithin (count : ℕ) (sizes : Sizes) : Type 0 where
+pub record SizesWithin (count : ℕ) (sizes : Sizes) : Type 0 where
   pub nodes : sizes.nodes ≤ count
   pub attributes : sizes.attributes ≡ 0
   pub blocks : sizes.blocks ≤ count * file_blocks

@@ -5,6 +5,6 @@ use Rattle.fx_plain.specs.declared.node.Kind.{Kind}
 use Rattle.fx_plain.specs.declared.node.Kind.TheVariants.{Dir, File}
 
 -- no node in memory has attributes
-abbrev pub node_of : Kind → seen.Node
-node_of Dir = seen.Dir map.empty
-node_of (File contents) = seen.File contents.value map.empty
+abbrev pub seen_node : Kind → seen.Node
+seen_node Dir = seen.Dir map.empty
+seen_node (File contents) = seen.File contents.value map.empty

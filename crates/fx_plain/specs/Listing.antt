@@ -17,7 +17,7 @@ abbrev pub past_child : List (List ℕ) → List ℕ → List (List ℕ)
 past_child directory name = directory ++ (name ++ 0 ∷ []) ∷ []
 
 -- the paths from `from` on go on with this name, which is that of a child or not
-pub record GoesOn (tree : Tree) (directory from : List (List ℕ)) (name : List ℕ)
+pub record NextName (tree : Tree) (directory from : List (List ℕ)) (name : List ℕ)
     (is_child : Bool) : Type 0 where
   pub names : children_from tree directory from
       ≡ (if is_child then name ∷ [] else [])
@@ -25,8 +25,8 @@ pub record GoesOn (tree : Tree) (directory from : List (List ℕ)) (name : List 
   pub fewer : length (paths_from tree (past_child directory name)) < length (paths_from tree from)
 
 -- a path of the directory's children, whether it is there or not
-abbrev pub IsBelow : List (List ℕ) → List (List ℕ) → Type 0
-IsBelow directory path = (name : List ℕ) × (path ≡ directory ++ name ∷ [])
+abbrev pub IsChildPath : List (List ℕ) → List (List ℕ) → Type 0
+IsChildPath directory path = (name : List ℕ) × (path ≡ directory ++ name ∷ [])
 
 -- the first of a list
 abbrev pub IsFirst : List (List ℕ) → List (List (List ℕ)) → Type 0

@@ -1,9 +1,9 @@
 -- How the tree in memory is seen.
-use Rattle.std.specs.Prelude.{ℕ, suc, ◌+◌, Bool, true, false, List, [], ◌∷◌, Option, None, Some, Result, Ok, Err, Vec, if◌then◌else◌, length, nat_lt}
+use Rattle.std.specs.Prelude.{ℕ, suc, ◌+◌, ◌≤◌, Bool, true, false, List, [], ◌∷◌, Option, None, Some, Result, Ok, Err, Vec, if◌then◌else◌, length, nat_lt}
 use Rattle.std.specs.Global.{Global}
 use Rattle.std.specs.FinMap as map
 use Rattle.std.specs.FinSet as set
-use Rattle.fx_plain.specs.Node.{Blocks, Contents, Node, Dir, File, written}
+use Rattle.fx_plain.specs.Node.{Blocks, Contents, Node, Dir, File, file_blocks, written}
 use Rattle.fx_plain.specs.Tree.{Tree}
 use Rattle.fx_plain.specs.declared.step.Refusal.{Refusal}
 use Rattle.fx_plain.specs.declared.contents.TheConstants.{MAX_FILE}
@@ -21,13 +21,17 @@ places_from n (false ∷ marks) = places_from (suc n) marks
 abbrev pub marked : List Bool → Blocks
 marked marks = set.from_list (places_from 0 marks)
 
+-- no more bytes and marks than the longest file has bytes and blocks
+abbrev pub IsFileSize : List ℕ → List Bool → Type 0
+IsFileSize bytes marks = (length bytes ≤ MAX_FILE) × (length marks ≤ file_blocks)
+
 -- the entries, each key as the list of its names
-abbrev pub by_path : List (Vec (List ℕ) Global × Node) → List (List (List ℕ) × Node)
-by_path [] = []
-by_path (e ∷ es) = (e.0.items, e.1) ∷ by_path es
+abbrev pub path_entries : List (Vec (List ℕ) Global × Node) → List (List (List ℕ) × Node)
+path_entries [] = []
+path_entries (e ∷ es) = (e.0.items, e.1) ∷ path_entries es
 
 abbrev pub tree_of : List (Vec (List ℕ) Global × Node) → Tree
-tree_of es = map.from_entries (by_path es)
+tree_of es = map.from_entries (path_entries es)
 
 -- the contents of a file
 abbrev pub contents_of : Node → Option Contents

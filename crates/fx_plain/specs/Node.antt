@@ -5,7 +5,8 @@ use Rattle.std.specs.Ordering.{nat_cmp}
 use Rattle.std.specs.FinMap as map
 use Rattle.std.specs.FinSet as set
 use Rattle.fx_item.specs.Name.{name_cmp}
-use Rattle.fx_plain.specs.declared.contents.TheConstants.{BLOCK_BYTES}
+use Rattle.fx_base.specs.declared.block.TheConstants.{BLOCK_BYTES}
+use Rattle.fx_plain.specs.declared.contents.TheConstants.{MAX_FILE}
 
 -- values by their names
 abbrev pub Attributes : Type 0
@@ -33,6 +34,10 @@ empty_dir = Dir map.empty
 
 abbrev pub empty_file : Node
 empty_file = File no_contents map.empty
+
+-- the blocks of the longest file
+abbrev pub file_blocks : ℕ
+file_blocks = MAX_FILE / BLOCK_BYTES
 
 -- the bytes with zeros behind them, at least n
 abbrev pub grown : ℕ → List ℕ → List ℕ

@@ -1,5 +1,5 @@
 -- The plain tree: what lies at each path.
-use Rattle.std.specs.Prelude.{◌≡◌, ℕ, ◌-◌, List, [], ◌∷◌, ◌++◌, Option, None, Some, if◌then◌else◌, filter_map, sum_by}
+use Rattle.std.specs.Prelude.{◌≡◌, ℕ, ◌-◌, ◌<◌, ◌^◌, List, [], ◌∷◌, ◌++◌, Option, None, Some, if◌then◌else◌, filter_map, sum_by}
 use Rattle.std.specs.Ordering.{eq_by_cmp}
 use Rattle.std.specs.declared.cmp.Ordering.{Ordering}
 use Rattle.std.specs.Cmp.Lexicographic.{slice_cmp}
@@ -50,6 +50,14 @@ attribute_count (File contents attributes) = map.len attributes
 abbrev pub held_count : Node → ℕ
 held_count (Dir attributes) = 0
 held_count (File contents attributes) = set.len contents.held
+
+-- all nodes, the root among them
+abbrev pub node_count : Tree → ℕ
+node_count tree = map.len tree
+
+-- so few nodes that those of each directory are counted in 32 bits
+abbrev pub IsCountable : Tree → Type 0
+IsCountable tree = node_count tree < 2 ^ 32
 
 -- nodes but the root, attributes, and held blocks
 abbrev pub sizes_of : Tree → Sizes

@@ -1,14 +1,12 @@
 //! What a file holds.
 ghost use Rattle.std.specs.Prelude.{◌≡◌, ◌+◌, ◌-◌, ◌≤◌, ◌++◌, [], true, false, length, take, drop, replicate, vec_len, OnOk, OnErr, IfOk};
 ghost use Rattle.std.specs.FinSet as set;
-ghost use Rattle.fx_plain.specs.Node.{written};
+ghost use Rattle.fx_plain.specs.Node.{file_blocks, written};
 
+use fx_base::BLOCK_BYTES;
 use fx_item::Bytes;
 use std::alloc::{AllocError, Global};
 use std::marker::Model;
-
-/// The bytes of a block.
-pub const BLOCK_BYTES: usize = 4096;
 
 /// The most bytes of a file.
 pub const MAX_FILE: usize = 16_777_216;
@@ -34,6 +32,10 @@ impl Model for Contents {
     ghost coded = { contents_code };
 
     ghost view = { λ c. record { bytes = c.bytes.items; held = marked c.marks.items } };
+
+    ghost use Rattle.fx_plain.specs.Memory.{IsFileSize};
+
+    ghost invariant = { λ c. IsFileSize c.bytes.items c.marks.items };
 }
 
 impl Contents {
@@ -79,14 +81,16 @@ impl Contents {
 
     /// How many bytes.
     pub fn len(&self) -> usize
-        ensures { result ≡ length self.now.bytes }
+        ensures bytes { result ≡ length self.now.bytes }
+        ensures few { result ≤ MAX_FILE }
     {
         self.bytes.len()
     }
 
     /// How many blocks are held. One pass over the marks.
     pub fn held(&self) -> usize
-        ensures { result ≡ set.len self.now.held }
+        ensures blocks { result ≡ set.len self.now.held }
+        ensures few { result ≤ file_blocks }
     {
         self.marks.iter().filter(|mark| **mark).count()
     }

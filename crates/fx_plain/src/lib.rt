@@ -11,9 +11,9 @@ mod step;
 #[cfg(test)]
 mod tests;
 
-pub use contents::{BLOCK_BYTES, MAX_FILE, MAX_READ};
+pub use contents::{MAX_FILE, MAX_READ};
 pub use kind::Kind;
 pub use names::Names;
-pub use path::{MAX_NAMES, Path};
+pub use path::{MAX_NAMES, Path, copy_path};
 pub use plain::{Plain, bare_laws, change_laws, children_laws, size_laws, step_laws};
 pub use step::{Answer, Refusal, Step, Steps};

@@ -24,15 +24,15 @@ enum Kind {
 
 impl Model for Node {
     ghost use Rattle.fx_plain.specs.Node.{Node};
-    ghost use Rattle.fx_plain.specs.Codes.{node_code};
+    ghost use Rattle.fx_plain.specs.Codes.{tree_node_code};
 
     ghost Value = { Node };
 
-    ghost coded = { node_code };
+    ghost coded = { tree_node_code };
 
-    ghost use Rattle.fx_plain.specs.Kinds.{node_of};
+    ghost use Rattle.fx_plain.specs.Kinds.{seen_node};
 
-    ghost view = { λ n. node_of n.kind };
+    ghost view = { λ n. seen_node n.kind };
 }
 
 impl Node {

@@ -1,21 +1,20 @@
 //! The tree in memory, and what a step does to it.
-ghost use Rattle.std.specs.Prelude.{ℕ, ◌↔◌, Contains, IsSome, option_map, List, [], ◌∷◌, ◌++◌, ◌≡◌, ◌≢◌, ◌+◌, ◌^◌, ◌<◌, ◌≤◌, true, false, sum_by, length, slice_set as set, option_copied, None, Some, Ok, Err, OnOk, OnErr, IfOk, MatchOption, MatchResult, if◌then◌else◌};
+ghost use Rattle.std.specs.Prelude.{ℕ, ◌↔◌, Contains, IsSome, IsTrue, option_map, List, [], ◌∷◌, ◌++◌, ◌≡◌, ◌≢◌, ◌+◌, ◌^◌, ◌<◌, ◌≤◌, true, false, sum_by, length, slice_set as set, option_copied, None, Some, Ok, Err, OnOk, OnErr, IfOk, MatchOption, MatchResult, if◌then◌else◌};
 ghost use Rattle.std.specs.FinMap as map;
 ghost use Rattle.fx_plain.specs.Node.{Node, File, Attributes, empty_dir, Contents, written};
 ghost use Rattle.std.specs.BTreeMap.{values};
-ghost use Rattle.fx_plain.specs.Tree.{IsTree, Tree, children, attribute_count, held_count, root, sizes_of};
+ghost use Rattle.fx_plain.specs.Tree.{IsCountable, IsTree, Tree, children, attribute_count, held_count, node_count, root, sizes_of};
 ghost use Rattle.fx_plain.specs.declared.step.Step.{Step};
 ghost use Rattle.fx_plain.specs.declared.step.Answer.{Answer};
-ghost use Rattle.fx_plain.specs.declared.step.Answer.TheVariants.{Stat};
 ghost use Rattle.fx_plain.specs.declared.step.Refusal.{Refusal};
 ghost use Rattle.fx_plain.specs.Table.{create, do_step, is_reading, list_at, mkdir, obstacle, place, read_at, refused, stat_at, walk, write_at};
 ghost use Rattle.fx_plain.specs.Memory.{file_at};
-ghost use Rattle.fx_plain.specs.Bare.{IsCreated, IsMade, IsWritten, bare, bare_node};
+ghost use Rattle.fx_plain.specs.Bare.{IsCreated, IsPlaced, IsWritten, bare, bare_node};
 ghost use Rattle.fx_item.specs.Name.{name_cmp};
 ghost use Rattle.fx_plain.specs.declared.step.Step.TheVariants.{Mkdir, Create, Write};
 ghost use Rattle.std.specs.List.Sorted.{IsStrictlySortedBy};
-ghost use Rattle.fx_plain.specs.Listing.{GoesOn, IsBelow, IsFirst, children_from, paths_from};
-ghost use Rattle.fx_plain.specs.Growth.{Grows, IsWithin, tree_after};
+ghost use Rattle.fx_plain.specs.Listing.{NextName, IsChildPath, IsFirst, children_from, paths_from};
+ghost use Rattle.fx_plain.specs.Growth.{Grows, SizesWithin, new_nodes, tree_after_steps};
 
 use crate::contents::{Contents, MAX_FILE, MAX_READ};
 use crate::kind::Kind;
@@ -55,15 +54,16 @@ impl Plain {
         Ok(Plain { nodes })
     }
 
-    /// Does the step, or refuses it and leaves the tree as it was; so does a step that finds too
-    /// little memory. Costs the depth of the path times the logarithm of the number of nodes, and
-    /// the bytes that are written, or read and answered; at a directory, to list it or to tell of
-    /// it costs a look-up for each child.
+    /// Does the step, or refuses it and leaves the tree as it was. An `Err`, for want of memory,
+    /// leaves the tree as it was too; a count past 32 bits is no reason for one. Costs the depth of
+    /// the path times the logarithm of the number of nodes, and the bytes that are written, or read
+    /// and answered; at a directory, to list it or to tell of it costs a look-up for each child.
     pub fn step(
         &mut self,
         alloc: Global,
         step: &Step,
     ) -> Result<Result<Answer, Refusal>, AllocError>
+        requires { IsCountable self.old }
         ensures ok { IfOk result (λ answer. do_step self.old step.now ≡ (answer, self.new)) }
         ensures err { OnErr result (self.new ≡ self.old) }
     {
@@ -75,6 +75,13 @@ impl Plain {
             Step::List { path } => self.list(alloc, path.as_slice()),
             Step::Stat { path } => self.stat(alloc, path.as_slice()),
         }
+    }
+
+    /// Whether it has fewer than 2^32 nodes, the root among them.
+    pub fn is_countable(&self) -> bool
+        ensures { IsTrue result ↔ IsCountable self.now }
+    {
+        self.nodes.len() < 1 << 32
     }
 
     /// What the tree holds. One pass over the nodes and the blocks of the files.
@@ -285,6 +292,7 @@ impl Plain {
 
     /// Tells what lies at a path.
     fn stat(&self, alloc: Global, path: &[Name]) -> Result<Result<Answer, Refusal>, AllocError>
+        requires { IsCountable self.now }
         ensures { IfOk result
             (λ answer.
             stat_at self.now path.now (walk self.now path.now) (map.get self.now path.now)
@@ -298,9 +306,17 @@ impl Plain {
         };
         let Some(contents) = node.contents() else {
             let names = self.children(alloc, path)?;
-            return Ok(Ok(stat_of(Kind::Dir, names.len(), 0)?));
+            return Ok(Ok(Answer::Stat {
+                kind: Kind::Dir,
+                size: names.len() as u32,
+                blocks: 0,
+            }));
         };
-        Ok(Ok(stat_of(Kind::File, contents.len(), contents.held())?))
+        Ok(Ok(Answer::Stat {
+            kind: Kind::File,
+            size: contents.len() as u32,
+            blocks: contents.held() as u32,
+        }))
     }
 
     /// The names of the children of the directory at a path, in the order of their bytes. What
@@ -321,9 +337,9 @@ impl Plain {
     /// The name with which the first path from `from` on goes on from the directory at `path`, and
     /// whether it ends there.
     fn next_below(&self, path: &[Name], from: &Vec<Name>) -> Option<(&Name, bool)>
-        requires { IsBelow path.now from.now.items }
+        requires { IsChildPath path.now from.now.items }
         ensures { MatchOption result (children_from self.now path.now from.now.items ≡ [])
-            (λ next. GoesOn self.now path.now from.now.items next.0.now next.1) }
+            (λ next. NextName self.now path.now from.now.items next.0.now next.1) }
     {
         let Some(found) = self.first_from(from) else {
             return None;
@@ -435,20 +451,6 @@ fn go_past(from: &mut Vec<Name>, last: usize, name: &[u8]) -> Result<(), AllocEr
     Ok(())
 }
 
-/// What is told of a node. A count past 32 bits is answered as want of memory: there is none for so
-/// many nodes.
-fn stat_of(kind: Kind, size: usize, blocks: usize) -> Result<Answer, AllocError>
-    ensures { IfOk result (λ answer. answer ≡ Stat kind size blocks) }
-{
-    let Ok(size) = u32::try_from(size) else {
-        return Err(AllocError);
-    };
-    let Ok(blocks) = u32::try_from(blocks) else {
-        return Err(AllocError);
-    };
-    Ok(Answer::Stat { kind, size, blocks })
-}
-
 /// The attributes of all nodes.
 fn attributes_of(nodes: &BTreeMap<Vec<Name>, Node>) -> usize
     requires { sum_by attribute_count (values nodes.now) < 2 ^ 32 }
@@ -497,7 +499,7 @@ pub fn bare_laws()
 pub fn change_laws()
     ensures mkdir { (tree : Tree) (path : List (List ℕ)) (answer : Answer)
         → (do_step tree (Mkdir path)).0 ≡ Ok answer
-        → IsMade tree path empty_dir (do_step tree (Mkdir path)).1 }
+        → IsPlaced tree path empty_dir (do_step tree (Mkdir path)).1 }
     ensures create { (tree : Tree) (path : List (List ℕ)) (answer : Answer)
         → (do_step tree (Create path)).0 ≡ Ok answer
         → IsCreated tree path (do_step tree (Create path)).1 }
@@ -515,13 +517,18 @@ pub fn children_laws()
         → IsStrictlySortedBy name_cmp (children tree path) }
 {}
 
-/// A step adds at most one node, at most the blocks of a text that it writes and at most those of
-/// one file, and no attributes. So after `n` steps from the root alone there are at most `n` nodes
-/// and `4096 n` held blocks.
+/// A step adds at most one node, as an insertion does, at most the blocks of a text that it writes
+/// and at most those of one file, and no attributes. So after `n` steps from the root alone there
+/// are at most `n` nodes and `4096 n` held blocks.
 pub fn size_laws()
+    ensures counted { (tree : Tree) (step : Step)
+        → node_count (do_step tree step).1 ≤ node_count tree + new_nodes step }
+    ensures single { node_count root ≡ 1 }
+    ensures inserted { (tree : Tree) (path : List (List ℕ)) (node : Node)
+        → node_count (map.insert tree path node) ≤ node_count tree + 1 }
     ensures grows { (tree : Tree) (step : Step)
         → Grows step (sizes_of tree) (sizes_of (do_step tree step).1) }
-    ensures root { IsWithin 0 (sizes_of root) }
+    ensures root { SizesWithin 0 (sizes_of root) }
     ensures within { (steps : List Step)
-        → IsWithin (length steps) (sizes_of (tree_after root steps)) }
+        → SizesWithin (length steps) (sizes_of (tree_after_steps root steps)) }
 {}

@@ -5,10 +5,10 @@ ghost use Rattle.fx_plain.specs.Words.{refusal_word};
 
 use crate::kind::Kind;
 use crate::names::Names;
-use crate::path::Path;
+use crate::path::{Path, copy_path};
+use fx_base::List;
 use fx_item::Bytes;
 use std::alloc::AllocError;
-use std::marker::Model;
 use thiserror::Error;
 
 /// One thing that a script asks of the tree.
@@ -47,68 +47,33 @@ impl Clone for Step {
     fn clone(&self) -> Result<Step, AllocError> {
         match self {
             Step::Mkdir { path } => Ok(Step::Mkdir {
-                path: path.clone()?,
+                path: copy_path(path)?,
             }),
             Step::Create { path } => Ok(Step::Create {
-                path: path.clone()?,
+                path: copy_path(path)?,
             }),
             Step::Write { path, at, text } => Ok(Step::Write {
-                path: path.clone()?,
+                path: copy_path(path)?,
                 at: *at,
                 text: text.clone()?,
             }),
             Step::Read { path, at, count } => Ok(Step::Read {
-                path: path.clone()?,
+                path: copy_path(path)?,
                 at: *at,
                 count: *count,
             }),
             Step::List { path } => Ok(Step::List {
-                path: path.clone()?,
+                path: copy_path(path)?,
             }),
             Step::Stat { path } => Ok(Step::Stat {
-                path: path.clone()?,
+                path: copy_path(path)?,
             }),
         }
     }
 }
 
 /// Steps, one after another.
-#[derive(Debug, Drop)]
-pub struct Steps {
-    items: Vec<Step>,
-}
-
-impl Model for Steps {
-    ghost use Rattle.std.specs.Prelude.{List};
-    ghost use Rattle.fx_plain.specs.declared.step.Step.{Step};
-
-    ghost Value = { List Step };
-
-    ghost view = { λ s. s.items.items };
-}
-
-impl Steps {
-    /// These steps.
-    pub fn new(items: Vec<Step>) -> Steps
-        ensures { result ≡ items.items }
-    {
-        Steps { items }
-    }
-
-    /// The steps as a slice.
-    pub fn as_slice(&self) -> &[Step]
-        ensures { result.now ≡ self.now }
-    {
-        self.items.as_slice()
-    }
-
-    /// The vector that holds them.
-    pub fn into_vec(self) -> Vec<Step>
-        ensures { result.items ≡ self }
-    {
-        self.items
-    }
-}
+pub type Steps = List<Step>;
 
 /// What a step that was done answers.
 #[derive(Debug, Drop)]

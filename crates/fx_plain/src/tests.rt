@@ -3,7 +3,7 @@
 //! names of a directory, or what a node is.
 use crate::{
     Answer, Kind, Names, Path, Plain, Refusal, Step, Steps, bare_laws, change_laws, children_laws,
-    size_laws, step_laws,
+    copy_path, size_laws, step_laws,
 };
 use fx_item::{Bytes, Name, Sizes};
 use std::alloc::{AllocError, Global};
@@ -200,12 +200,24 @@ fn is_refusal_of(foretold: Option<Refusal>, answer: &Result<Answer, Refusal>) ->
     }
 }
 
+/// Does the step; a tree of a test has few nodes.
+fn do_step(
+    alloc: Global,
+    plain: &mut Plain,
+    step: &Step,
+) -> Result<Result<Answer, Refusal>, AllocError> {
+    if !plain.is_countable() {
+        return Err(AllocError);
+    }
+    plain.step(alloc, step)
+}
+
 /// Does the step of a row, after it is asked whether it would be refused.
 fn do_row(rt: &impl Abort, alloc: Global, plain: &mut Plain, row: &str) -> Result<(), Fail> {
     let (text, wanted) = row.split_once(" -> ").ok_or("no arrow")?;
     let step = step_of(alloc, text)?;
     let refusal = plain.refusal(&step);
-    let answer = plain.step(alloc, &step)?;
+    let answer = do_step(alloc, plain, &step)?;
     assert!(rt; is_refusal_of(refusal, &answer), "foretold at {row}");
     assert!(rt; is_wanted(alloc, &answer, wanted)?, "at {row}");
     Ok(())
@@ -225,7 +237,7 @@ fn steps_answer_as_the_table_says(rt: HostRuntime) -> Result<(), Fail> {
 #[test]
 fn copies_are_the_same(rt: HostRuntime) -> Result<(), Fail> {
     let path = path_of(rt.alloc(), "/v/a")?;
-    let copy = path.clone()?;
+    let copy = copy_path(&path)?;
     assert_eq!(rt; copy.as_slice(), path.as_slice());
     let step = step_of(rt.alloc(), "mkdir /v")?;
     let mut steps = Vec::new(rt.alloc());
@@ -233,10 +245,10 @@ fn copies_are_the_same(rt: HostRuntime) -> Result<(), Fail> {
     let steps = Steps::new(steps);
     let mut plain = Plain::new(rt.alloc())?;
     for step in steps.as_slice() {
-        let answer = plain.step(rt.alloc(), step)?;
+        let answer = do_step(rt.alloc(), &mut plain, step)?;
         assert!(rt; is_wanted(rt.alloc(), &answer, "done")?);
     }
-    let answer = plain.step(rt.alloc(), &step)?;
+    let answer = do_step(rt.alloc(), &mut plain, &step)?;
     assert!(rt; is_wanted(rt.alloc(), &answer, "exists")?);
     step_laws();
     change_laws();

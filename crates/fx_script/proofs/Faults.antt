@@ -19,7 +19,7 @@ use Rattle.fx_script.specs.declared.script.Task.{Task}
 use Rattle.fx_script.specs.declared.sent.TheConstants.{MAX_LINES, MAX_CLIENT}
 use Rattle.fx_script.specs.Cut.{cut, is_blank, words_of, lines_of}
 use Rattle.fx_script.specs.Word.{is_decimal, number_in, max_number, text_of, name_of, in_front, names_of, below_root, path_of}
-use Rattle.fx_script.specs.Line.{◌>>=◌, only_word, only_path, three_words, write_of, read_of, step_of, sync_of, single_of, has_semicolon, line_of_words}
+use Rattle.fx_script.specs.Line.{◌>>=◌, only_word, only_path, three_words, write_step, read_step, step_of, sync_of, single_of, has_semicolon, line_of_words}
 use Rattle.fx_script.specs.Script.{client_of_number, client_of, task, first_sender, sender_of, task_of_words, task_of, before_tasks, tasks_from, script_of}
 
 -- the fault, if there is one, is not want of memory
@@ -78,14 +78,14 @@ three_own (first ∷ second ∷ third ∷ fourth ∷ words) e = cc
 one_path_own : (make : List (List ℕ) → Step) (words : List (List ℕ)) → IsOwn (only_path words >>= λ path. Ok (make path))
 one_path_own make words = then_own (only_path words) (λ path. Ok (make path)) (then_own (only_word words) path_of (only_own words) path_own) (λ path e. cc)
 
-write_own : (words : List (List ℕ)) → IsOwn (write_of words)
+write_own : (words : List (List ℕ)) → IsOwn (write_step words)
 write_own words =
     then_own (three_words words) (λ (found : List ℕ × List ℕ × List ℕ). path_of found.0 >>= λ path. number_in found.1 >>= λ at. text_of found.2 >>= λ text. Ok (Write path at text)) (three_own words)
     (λ found. then_own (path_of found.0) (λ path. number_in found.1 >>= λ at. text_of found.2 >>= λ text. Ok (Write path at text)) (path_own found.0)
     (λ path. then_own (number_in found.1) (λ at. text_of found.2 >>= λ text. Ok (Write path at text)) (number_own found.1)
     (λ at. then_own (text_of found.2) (λ text. Ok (Write path at text)) (text_own found.2) (λ text e. cc))))
 
-read_own : (words : List (List ℕ)) → IsOwn (read_of words)
+read_own : (words : List (List ℕ)) → IsOwn (read_step words)
 read_own words =
     then_own (three_words words) (λ (found : List ℕ × List ℕ × List ℕ). path_of found.0 >>= λ path. number_in found.1 >>= λ at. number_in found.2 >>= λ count. Ok (Read path at count)) (three_own words)
     (λ found. then_own (path_of found.0) (λ path. number_in found.1 >>= λ at. number_in found.2 >>= λ count. Ok (Read path at count)) (path_own found.0)

@@ -28,10 +28,10 @@ use Rattle.fx_script.proofs.Escapes.{is_escape_byte, clean, decode-escaped, esca
 
 -- ---- pieces
 
-abbrev is_not : ℕ → ℕ → Bool
+abbrev pub is_not : ℕ → ℕ → Bool
 is_not at b = not (b == at)
 
-weaker : (p q : ℕ → Bool) → ((b : ℕ) → p b ≡ true → q b ≡ true) → (xs : List ℕ) → list_all p xs ≡ true → list_all q xs ≡ true
+pub weaker : (p q : ℕ → Bool) → ((b : ℕ) → p b ≡ true → q b ≡ true) → (xs : List ℕ) → list_all p xs ≡ true → list_all q xs ≡ true
 weaker p q h [] all = refl
 weaker p q h (x ∷ xs) all =
     let parts = and_parts (p x) (list_all p xs) all in
@@ -50,7 +50,7 @@ cut_free at (x ∷ xs) h =
     let parts = and_parts (is_not at x) (list_all (is_not at) xs) h in
     step_on at x xs parts.0 ∙ ap (onto_first x) (cut_free at xs parts.1)
 
-cut_next : (at : ℕ) (xs rest : List ℕ) → list_all (is_not at) xs ≡ true → cut at (xs ++ at ∷ rest) ≡ xs ∷ cut at rest
+pub cut_next : (at : ℕ) (xs rest : List ℕ) → list_all (is_not at) xs ≡ true → cut at (xs ++ at ∷ rest) ≡ xs ∷ cut at rest
 cut_next at [] rest h = ap (λ t. cond t ([] ∷ cut at rest) (onto_first at (cut at rest))) (eq-eqb at at refl)
 cut_next at (x ∷ xs) rest h =
     let parts = and_parts (is_not at x) (list_all (is_not at) xs) h in
@@ -144,19 +144,19 @@ path_printed (name ∷ names) h =
 -- ---- words
 
 -- ASCII, and no space
-abbrev is_word_byte : ℕ → Bool
+abbrev pub is_word_byte : ℕ → Bool
 is_word_byte b = is_ascii b && is_not 32 b
 
-abbrev AreWords : List (List ℕ) → Type 0
+abbrev pub AreWords : List (List ℕ) → Type 0
 AreWords words = AllByRecursion (λ word. list_all is_word_byte word ≡ true) words
 
 escape_is_word : (b : ℕ) → is_escape_byte b ≡ true → is_word_byte b ≡ true
 escape_is_word b h = grind (arith, nat_tests)
 
-digit_is_word : (b : ℕ) → is_ascii_digit b ≡ true → is_word_byte b ≡ true
+pub digit_is_word : (b : ℕ) → is_ascii_digit b ≡ true → is_word_byte b ≡ true
 digit_is_word b h = grind (arith, nat_tests)
 
-escaped_word : (bs : List ℕ) → AreBytes bs → list_all is_word_byte (escaped bs) ≡ true
+pub escaped_word : (bs : List ℕ) → AreBytes bs → list_all is_word_byte (escaped bs) ≡ true
 escaped_word bs h = weaker is_escape_byte is_word_byte escape_is_word (escaped bs) (clean bs h)
 
 decimal_word : (n : ℕ) → n ≤ max_number → list_all is_word_byte (decimal n) ≡ true
@@ -173,7 +173,7 @@ path_word (name ∷ names) h = names_word (name ∷ names) h.names
 
 -- ---- lines
 
-cut_spaced : (word : List ℕ) (words : List (List ℕ)) → AreWords (word ∷ words) → words_of (spaced (word ∷ words)) ≡ word ∷ words
+pub cut_spaced : (word : List ℕ) (words : List (List ℕ)) → AreWords (word ∷ words) → words_of (spaced (word ∷ words)) ≡ word ∷ words
 cut_spaced word [] h = cut_free 32 word (weaker is_word_byte (is_not 32) (λ b e. (and_parts (is_ascii b) (is_not 32 b) e).1) word h.0)
 cut_spaced word (next ∷ words) h =
     cut_next 32 word (spaced (next ∷ words)) (weaker is_word_byte (is_not 32) (λ b e. (and_parts (is_ascii b) (is_not 32 b) e).1) word h.0)

@@ -22,7 +22,7 @@ use Rattle.fx_script.specs.declared.fault.ScriptFault.{ScriptFault}
 use Rattle.fx_script.specs.declared.sent.TheConstants.{MAX_LINES, MAX_CLIENT}
 use Rattle.fx_script.specs.Cut.{onto_first, cut, is_blank, words_of, lines_of}
 use Rattle.fx_script.specs.Word.{is_decimal, number_in, max_number, text_of, name_of, in_front, names_of, few_names_of, below_root, path_of}
-use Rattle.fx_script.specs.Line.{◌>>=◌, only_word, only_path, three_words, mkdir_of, create_of, write_of, read_of, list_of, stat_of, step_of, sync_of, single_of, has_semicolon, line_of_words}
+use Rattle.fx_script.specs.Line.{◌>>=◌, only_word, only_path, three_words, mkdir_of, create_of, write_step, read_step, list_of, stat_of, step_of, sync_of, single_of, has_semicolon, line_of_words}
 use Rattle.fx_script.specs.Checked.{line_read}
 use Rattle.fx_script.specs.Sent.{IsSent}
 use Rattle.fx_script.specs.Print.{IsPath, IsText, StepKeepsRules, LineKeepsRules}
@@ -161,16 +161,16 @@ path_step make words step keeps e =
     let word = made_of (only_word words) path_of path.x path.is in
     answered (make path.x) step path.gives (keeps path.x (path_named word.x path.x word.gives))
 
-write_step : (words : List (List ℕ)) (step : Step) → AreWords words → write_of words ≡ Ok step → StepKeepsRules step
-write_step words step h e =
+write_rules : (words : List (List ℕ)) (step : Step) → AreWords words → write_step words ≡ Ok step → StepKeepsRules step
+write_rules words step h e =
     let found = made_of (three_words words) (λ (found : List ℕ × List ℕ × List ℕ). path_of found.0 >>= λ path. number_in found.1 >>= λ at. text_of found.2 >>= λ text. Ok (Write path at text)) step e in
     let path = made_of (path_of found.x.0) (λ path. number_in found.x.1 >>= λ at. text_of found.x.2 >>= λ text. Ok (Write path at text)) step found.gives in
     let at = made_of (number_in found.x.1) (λ at. text_of found.x.2 >>= λ text. Ok (Write path.x at text)) step path.gives in
     let text = made_of (text_of found.x.2) (λ text. Ok (Write path.x at.x text)) step at.gives in
     answered (Write path.x at.x text.x) step text.gives (path_named found.x.0 path.x path.is, number_small found.x.1 at.x at.is, text_bytes found.x.2 text.x (third_word words found.x h found.is) text.is)
 
-read_step : (words : List (List ℕ)) (step : Step) → read_of words ≡ Ok step → StepKeepsRules step
-read_step words step e =
+read_rules : (words : List (List ℕ)) (step : Step) → read_step words ≡ Ok step → StepKeepsRules step
+read_rules words step e =
     let found = made_of (three_words words) (λ (found : List ℕ × List ℕ × List ℕ). path_of found.0 >>= λ path. number_in found.1 >>= λ at. number_in found.2 >>= λ count. Ok (Read path at count)) step e in
     let path = made_of (path_of found.x.0) (λ path. number_in found.x.1 >>= λ at. number_in found.x.2 >>= λ count. Ok (Read path at count)) step found.gives in
     let at = made_of (number_in found.x.1) (λ at. number_in found.x.2 >>= λ count. Ok (Read path.x at count)) step path.gives in
@@ -188,8 +188,8 @@ step_rules [] step h e = absurd (cc)
 step_rules (word ∷ words) step h e =
     either_step (bytes_eq word (codes "mkdir")) (mkdir_of words) _ step (path_step Mkdir words step (λ path k. k))
     (either_step (bytes_eq word (codes "create")) (create_of words) _ step (path_step Create words step (λ path k. k))
-    (either_step (bytes_eq word (codes "write")) (write_of words) _ step (write_step words step h.1)
-    (either_step (bytes_eq word (codes "read")) (read_of words) _ step (read_step words step)
+    (either_step (bytes_eq word (codes "write")) (write_step words) _ step (write_rules words step h.1)
+    (either_step (bytes_eq word (codes "read")) (read_step words) _ step (read_rules words step)
     (either_step (bytes_eq word (codes "list")) (list_of words) _ step (path_step ListStep words step (λ path k. k))
     (either_step (bytes_eq word (codes "stat")) (stat_of words) (Err faults.UnknownWord) step (path_step StatStep words step (λ path k. k)) (λ none. absurd (cc none))))))) e
 

@@ -51,8 +51,8 @@ abbrev pub create_of : List (List ℕ) → Result Step LineFault
 create_of words = only_path words >>= λ path. Ok (Create path)
 
 -- `write PATH AT TEXT`
-abbrev pub write_of : List (List ℕ) → Result Step LineFault
-write_of words =
+abbrev pub write_step : List (List ℕ) → Result Step LineFault
+write_step words =
     three_words words >>= λ (path, at, text).
     path_of path >>= λ path.
     number_in at >>= λ at.
@@ -60,8 +60,8 @@ write_of words =
     Ok (Write path at text)
 
 -- `read PATH AT COUNT`
-abbrev pub read_of : List (List ℕ) → Result Step LineFault
-read_of words =
+abbrev pub read_step : List (List ℕ) → Result Step LineFault
+read_step words =
     three_words words >>= λ (path, at, count).
     path_of path >>= λ path.
     number_in at >>= λ at.
@@ -82,8 +82,8 @@ step_of [] = Err faults.UnknownWord
 step_of (word ∷ words) =
     if bytes_eq word (codes "mkdir") then mkdir_of words
     else if bytes_eq word (codes "create") then create_of words
-    else if bytes_eq word (codes "write") then write_of words
-    else if bytes_eq word (codes "read") then read_of words
+    else if bytes_eq word (codes "write") then write_step words
+    else if bytes_eq word (codes "read") then read_step words
     else if bytes_eq word (codes "list") then list_of words
     else if bytes_eq word (codes "stat") then stat_of words
     else Err faults.UnknownWord

@@ -1,6 +1,6 @@
 //! The steps that a line may say.
 ghost use Rattle.std.specs.Prelude.{◌≡◌, IfOk};
-ghost use Rattle.fx_script.specs.Line.{step_of, write_of, read_of, only_word, only_path, three_words, seen_word, seen_words};
+ghost use Rattle.fx_script.specs.Line.{step_of, write_step, read_step, only_word, only_path, three_words, seen_word, seen_words};
 ghost use Rattle.fx_script.specs.Checked.{path_said, step_in, step_said};
 
 use crate::fault::LineFault;
@@ -67,7 +67,7 @@ fn only_path<'a>(words: Pieces<'a>) -> Result<&'a [u8], LineFault>
 
 /// The words after `write`.
 fn check_write<'a>(words: Pieces<'a>) -> Result<StepWords<'a>, LineFault>
-    ensures { step_said result ≡ write_of words.entry }
+    ensures { step_said result ≡ write_step words.entry }
 {
     let (path, at, text) = three_words(words)?;
     check_path(path)?;
@@ -78,7 +78,7 @@ fn check_write<'a>(words: Pieces<'a>) -> Result<StepWords<'a>, LineFault>
 
 /// The words after `read`.
 fn check_read<'a>(words: Pieces<'a>) -> Result<StepWords<'a>, LineFault>
-    ensures { step_said result ≡ read_of words.entry }
+    ensures { step_said result ≡ read_step words.entry }
 {
     let (path, at, count) = three_words(words)?;
     check_path(path)?;

@@ -317,3 +317,45 @@ fn each_byte_is_printed_and_read_again(rt: HostRuntime) -> Result<(), Fail> {
     }
     Ok(())
 }
+
+/// A path of names of one byte each.
+fn short_path(alloc: Global, names: &[u8]) -> Result<Path, AllocError> {
+    let mut path = Vec::new(alloc);
+    for name in names {
+        path.push(Name::new(vec![in alloc; *name]?))?;
+    }
+    Ok(Path::new(path))
+}
+
+/// Whether a script can say the client's write of the text, which was made by hand.
+fn is_sayable(alloc: Global, client: u32, names: &[u8], text: &[u8]) -> Result<bool, AllocError> {
+    let line = Line::Single(Step::Write {
+        path: short_path(alloc, names)?,
+        at: 0,
+        text: Bytes::new(Vec::from_slice(alloc, text)?),
+    });
+    let task = Task {
+        client,
+        number: 1,
+        line,
+    };
+    Ok(task.keeps_rules())
+}
+
+#[test]
+fn each_rule_fails_once(rt: HostRuntime) -> Result<(), Fail> {
+    let alloc = rt.alloc();
+    let most = repeated(alloc, b"a", 64)?;
+    let over = repeated(alloc, b"a", 65)?;
+    assert!(rt; is_sayable(alloc, 1, most.as_slice(), b"\0")?);
+    assert!(rt; is_sayable(alloc, 16, b"", b"x")?);
+    assert!(rt; !is_sayable(alloc, 0, b"va", b"x")?, "no client");
+    assert!(rt; !is_sayable(alloc, 17, b"va", b"x")?, "no such client");
+    assert!(rt;
+        !is_sayable(alloc, 1, over.as_slice(), b"x")?,
+        "too many names"
+    );
+    assert!(rt; !is_sayable(alloc, 1, b"v.", b"x")?, "a name that is none");
+    assert!(rt; !is_sayable(alloc, 1, b"va", b"")?, "no text");
+    Ok(())
+}

@@ -1,7 +1,7 @@
 use Rattle.std.proofs.Common.{◌≢◌, ◌+◌, ◌-◌, ◌/◌, ◌++◌, length, [], true, take, drop, replicate, ap, refl, ◌∙◌, arith}
 use Rattle.std.proofs.lemmas.Result.{err_from_is_err_and}
 use Rattle.fx_plain.specs.Node.{overwritten, written}
-use Rattle.fx_plain.specs.declared.contents.TheConstants.{BLOCK_BYTES}
+use Rattle.fx_base.specs.declared.block.TheConstants.{BLOCK_BYTES}
 use Rattle.fx_plain.specs.Memory.{marked}
 use Rattle.fx_plain.proofs.Marks.{marked-append}
 use Rattle.fx_plain.proofs.Files.{write_seen}

@@ -1,5 +1,5 @@
 use Rattle.std.proofs.Common.{◌≡◌, ◌≢◌, ℕ, List, ◌∷◌, ◌++◌, sym, ap, subst, ◌∙◌}
-use Rattle.fx_plain.specs.Listing.{GoesOn}
+use Rattle.fx_plain.specs.Listing.{NextName}
 use Rattle.fx_plain.proofs.Children.{next_on, none_on, not_longer, not_stripped, stripped}
 use Rattle.fx_plain.proofs.plain.Plain.next_below.Goals as goal
 
@@ -19,5 +19,5 @@ returns c =
     let name = c.in-Some-split_first.name.now in
     let deeper = c.in-Some-split_first.deeper.now in
     let is : c.in-Some.found.now.items ≡ c.args.path.now ++ below = sym c.deref.ensures.value ∙ stripped c.deref.result.now c.args.path.now c.in-Some-strip_prefix.below c.in-Some-strip_prefix.ensures.cases in
-    subst (GoesOn c.args.self.now c.args.path.now c.args.from.now.items name) (sym c.is_empty.ensures)
+    subst (NextName c.args.self.now c.args.path.now c.args.from.now.items name) (sym c.is_empty.ensures)
     (next_on c.args.self.now c.args.path.now c.args.from.now.items name deeper c.in-Some.found.now.items c.requires (is ∙ ap (λ rest. c.args.path.now ++ rest) c.in-Some-split_first.ensures.cases.0) c.in-Some.ensures)

@@ -1,0 +1,5 @@
+pub mod Numbers
+pub mod Entries
+pub mod Further
+pub mod Answered
+pub mod Texts

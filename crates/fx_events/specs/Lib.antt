@@ -1,0 +1,4 @@
+pub mod Notes
+pub mod Ends
+pub mod Lines
+pub mod ByClient
