@@ -3,7 +3,7 @@ use Rattle.std.proofs.Common.{◌≡◌, ◌⊎◌, inl, inr, ℕ, ◌+◌, ◌*
 use Rattle.std.specs.Prelude.{Option, Some, None}
 use Rattle.std.proofs.lemmas.Bool.{cases_lt}
 use Rattle.fx_item.specs.Item.{ObjectKey, GraveKey, PlainValue, GoneValue, DirectoryValue, FileValue, AttributeValue, ChildValue, WaitingValue, ExtentValue, TakenValue}
-use Rattle.fx_plain.specs.declared.contents.TheConstants.{BLOCK_BYTES}
+use Rattle.fx_base.specs.declared.block.TheConstants.{BLOCK_BYTES}
 use Rattle.fx_plain.specs.declared.kind.Kind.TheVariants.{Dir, File}
 use Rattle.fx_namespace.specs.Nodes.{NodeId, root_node, told_kind}
 use Rattle.fx_namespace.specs.Wrong.{IsLeastWrong, IsWrongAt}

@@ -4,7 +4,7 @@ use Rattle.std.specs.Prelude.{Option, Some, None}
 use Rattle.std.proofs.lemmas.Bool.{cases_lt, lt-ltb, le-ltb}
 use Rattle.std.proofs.lemmas.List.{get_or_append_left, get_or-append_right, get_or-drop, get_or-replicate, get_or-take, length-replicate, length-drop, drop_all, append-nil, length-take-le}
 use Rattle.fx_plain.specs.Node.{overwritten}
-use Rattle.fx_plain.specs.declared.contents.TheConstants.{BLOCK_BYTES}
+use Rattle.fx_base.specs.declared.block.TheConstants.{BLOCK_BYTES}
 use Rattle.fx_contents.specs.Files.{byte_in, byte_at, bytes_of_block}
 use Rattle.fx_contents.specs.Writes.{written_byte, is_covered, from_in, piece_in, patched}
 use Rattle.fx_contents.specs.Cuts.{cut_byte, cut_block}

@@ -3,7 +3,7 @@ use Rattle.std.proofs.Common.{◌≡◌, ℕ, ◌+◌, ◌*◌, ◌/◌, ◌%◌
 use Rattle.std.specs.Prelude.{Option, Some, None}
 use Rattle.fx_item.specs.Item.{ObjectKey, FileValue}
 use Rattle.fx_plain.specs.Node.{written}
-use Rattle.fx_plain.specs.declared.contents.TheConstants.{BLOCK_BYTES}
+use Rattle.fx_base.specs.declared.block.TheConstants.{BLOCK_BYTES}
 use Rattle.fx_namespace.specs.Nodes.{NodeId}
 use Rattle.fx_contents.specs.Points.{Points, named, device_block}
 use Rattle.fx_contents.specs.Files.{byte_in, byte_at, file_of}

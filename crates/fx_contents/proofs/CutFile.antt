@@ -6,7 +6,7 @@ use Rattle.std.specs.FinMap.{nat_cmp-IsAntisymmetric}
 use Rattle.std.proofs.lemmas.Bool.{cases_lt, lt-ltb, le-ltb}
 use Rattle.std.proofs.lemmas.List.{get_or-take}
 use Rattle.fx_plain.specs.Node.{Contents, grown}
-use Rattle.fx_plain.specs.declared.contents.TheConstants.{BLOCK_BYTES}
+use Rattle.fx_base.specs.declared.block.TheConstants.{BLOCK_BYTES}
 use Rattle.fx_contents.specs.Files.{byte_in, byte_at, file_of}
 use Rattle.fx_contents.specs.Cuts.{IsEdge, IsFront, cut_byte, truncated}
 use Rattle.fx_contents.proofs.FileBytes

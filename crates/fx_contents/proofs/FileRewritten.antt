@@ -7,7 +7,7 @@ use Rattle.fx_item.specs.Look.{value_of_entry}
 use Rattle.fx_item.specs.Overlay.{Point, AtKey, AtFileBlock, Entry}
 use Rattle.fx_plain.specs.Node.{Attributes, File}
 use Rattle.fx_plain.specs.Tree.{Tree}
-use Rattle.fx_plain.specs.declared.contents.TheConstants.{BLOCK_BYTES}
+use Rattle.fx_base.specs.declared.block.TheConstants.{BLOCK_BYTES}
 use Rattle.fx_plain.specs.declared.kind.Kind.TheVariants as kinds
 use Rattle.fx_namespace.specs.Changes.{Resizes, SameBut}
 use Rattle.fx_namespace.specs.Nodes.{NodeId, root_node, node_at, told_kind}

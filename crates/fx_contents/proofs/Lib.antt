@@ -20,3 +20,4 @@ pub mod LostNode
 pub mod RemovedNode
 pub mod Marked
 pub mod PlannedWrite
+mod LookedUp

@@ -6,7 +6,7 @@ use Rattle.fx_item.specs.Item.{ObjectKey, PlainValue, GoneValue, DirectoryValue,
 use Rattle.fx_item.specs.Overlay.{AtDeviceBlock}
 use Rattle.fx_plain.specs.Node.{Attributes}
 use Rattle.fx_plain.specs.Tree.{Tree}
-use Rattle.fx_plain.specs.declared.contents.TheConstants.{BLOCK_BYTES}
+use Rattle.fx_base.specs.declared.block.TheConstants.{BLOCK_BYTES}
 use Rattle.fx_namespace.specs.Nodes.{NodeId}
 use Rattle.fx_namespace.specs.Trees.{IsTreeOf}
 use Rattle.fx_contents.specs.Allocated.{AreAllocated}

@@ -11,7 +11,7 @@ use Rattle.fx_item.specs.Overlay.{AtKey, AtFileBlock, Entry}
 use Rattle.fx_plain.specs.Node.{Attributes, no_contents}
 use Rattle.fx_plain.specs.Node as plain
 use Rattle.fx_plain.specs.Tree.{Tree}
-use Rattle.fx_plain.specs.declared.contents.TheConstants.{BLOCK_BYTES}
+use Rattle.fx_base.specs.declared.block.TheConstants.{BLOCK_BYTES}
 use Rattle.fx_plain.specs.declared.kind.Kind.{Kind}
 use Rattle.fx_plain.specs.declared.kind.Kind.TheVariants.{Dir, File}
 use Rattle.fx_namespace.specs.Changes.{GainsNode, IsPlaceFor}

@@ -3,17 +3,17 @@ use Rattle.std.proofs.Common.{◌≡◌, inl, inr, ℕ, ◌+◌, ◌*◌, ◌<�
 use Rattle.std.specs.Prelude.{Some, None}
 use Rattle.fx_item.specs.Item.{ObjectKey, FileValue}
 use Rattle.fx_item.specs.Look.{value_of_entry}
-use Rattle.fx_item.specs.Overlay.{AtKey, AtFileBlock, ValueEntry, BlockEntry}
-use Rattle.fx_plain.specs.declared.contents.TheConstants.{BLOCK_BYTES}
+use Rattle.fx_item.specs.Overlay.{AtKey, AtFileBlock, ValueEntry, BlockEntry, Said}
+use Rattle.fx_base.specs.declared.block.TheConstants.{BLOCK_BYTES}
 use Rattle.fx_namespace.specs.Nodes.{NodeId}
-use Rattle.fx_contents.specs.Points.{ItemsSay, Points, points_after, block_in, named, device_block}
+use Rattle.fx_contents.specs.Points.{Points, points_after, block_in, named, device_block}
 use Rattle.fx_contents.specs.Files.{byte_at, bytes_of_block}
 use Rattle.fx_contents.specs.Cuts.{IsEdge, SaysCut, IsCutting, cut_byte}
 use Rattle.fx_contents.specs.Staged.{HasWholeBlocks}
 use Rattle.fx_contents.proofs.BlockBytes
 use Rattle.fx_contents.proofs.StagedWrite.{says_so, says_nothing}
 
-module _ (m : Points) (said : ItemsSay) (f g : ℕ → List ℕ) (node : NodeId) (size len : ℕ) (q : SaysCut m said f g node size len) where
+module _ (m : Points) (said : Said) (f g : ℕ → List ℕ) (node : NodeId) (size len : ℕ) (q : SaysCut m said f g node size len) where
   pub commit_cuts : named m (ObjectKey node.store node.id) ≡ Some (FileValue len) → HasWholeBlocks m f node → IsCutting m (points_after m said) f g node size len
   commit_cuts before full = record {
     before = before;

@@ -4,9 +4,9 @@ use Rattle.std.specs.Prelude.{Option, Some, None, ◌==◌, nat_le, nat_lt}
 use Rattle.std.specs.List.{slice_get, list_any, range_with_len}
 use Rattle.std.proofs.lemmas.Bool.{and_from, and_parts, and_left, and_right, cases_Bool, eq-eqb, eqb-true, eqb-false, le-leb, lt-ltb, le-ltb, lt-leb, cases_order}
 use Rattle.fx_item.specs.Item.{PlainKey, ObjectKey, AttributeKey, ExtentKey, ChildKey, GraveKey, AllocationKey, FileValue}
-use Rattle.fx_item.specs.Overlay.{Point, AtKey, AtFileBlock, AtDeviceBlock, Entry, ValueEntry, BlockEntry, covers, says, entry_of}
+use Rattle.fx_item.specs.Overlay.{Point, AtKey, AtFileBlock, AtDeviceBlock, Entry, ValueEntry, BlockEntry, covers, says, entry_in}
 use Rattle.fx_plain.specs.Node.{covered}
-use Rattle.fx_plain.specs.declared.contents.TheConstants.{BLOCK_BYTES}
+use Rattle.fx_base.specs.declared.block.TheConstants.{BLOCK_BYTES}
 use Rattle.fx_namespace.specs.Nodes.{NodeId}
 use Rattle.fx_contents.specs.Rewrites.{IsBeside}
 use Rattle.fx_contents.specs.Staged.{StagedBlock, SaysWrite, staged_extent, staged_items}
@@ -40,13 +40,13 @@ module _ (sum : List ℕ → ℕ) (node : NodeId) where
   says_here s rest =
       let z : s.index - s.index ≡ 0 = omega arith in
       let b : s.block + (s.index - s.index) ≡ s.block = omega arith in
-      ap (λ t. cond t (Some (entry_of (ExtentKey node.store node.id s.index (s.index + 1)) (staged_extent sum node s).value (AtFileBlock node.store node.id s.index))) (says (map (staged_extent sum node) rest) (AtFileBlock node.store node.id s.index))) (covers_here s.index)
+      ap (λ t. cond t (Some (entry_in (ExtentKey node.store node.id s.index (s.index + 1)) (staged_extent sum node s).value (AtFileBlock node.store node.id s.index))) (says (map (staged_extent sum node) rest) (AtFileBlock node.store node.id s.index))) (covers_here s.index)
       ∙ (λ i. Some (Some (BlockEntry (b i) (get_or (sum s.bytes ∷ []) (z i) 0))))
 
   says_later : (s : StagedBlock) (rest : List StagedBlock) (k : ℕ) → (s.index ≡ k → ⊥) → extents (s ∷ rest) (AtFileBlock node.store node.id k) ≡ extents rest (AtFileBlock node.store node.id k)
   unfolding extents
   says_later s rest k ne =
-      ap (λ t. cond t (Some (entry_of (ExtentKey node.store node.id s.index (s.index + 1)) (staged_extent sum node s).value (AtFileBlock node.store node.id k))) (says (map (staged_extent sum node) rest) (AtFileBlock node.store node.id k))) (covers_none s.index k ne)
+      ap (λ t. cond t (Some (entry_in (ExtentKey node.store node.id s.index (s.index + 1)) (staged_extent sum node s).value (AtFileBlock node.store node.id k))) (says (map (staged_extent sum node) rest) (AtFileBlock node.store node.id k))) (covers_none s.index k ne)
 
   -- the block at a place of a range of places
   says_at : (staged : List StagedBlock) (a n i : ℕ) (s : StagedBlock) → map (λ x. x.index) staged ≡ range_with_len a n → slice_get staged i ≡ Some s
@@ -92,7 +92,7 @@ module _ (sum : List ℕ → ℕ) (node : NodeId) where
   unfolding extents
   says_other [] p a d = refl
   says_other (x ∷ rest) p a d =
-      ap (λ t. cond t (Some (entry_of (ExtentKey node.store node.id x.index (x.index + 1)) (staged_extent sum node x).value p)) (says (map (staged_extent sum node) rest) p)) (covers_other x.index p a d)
+      ap (λ t. cond t (Some (entry_in (ExtentKey node.store node.id x.index (x.index + 1)) (staged_extent sum node x).value p)) (says (map (staged_extent sum node) rest) p)) (covers_other x.index p a d)
       ∙ says_other rest p a d
 
   module _ (len : ℕ) (staged : List StagedBlock) where
@@ -120,7 +120,7 @@ module _ (sum : List ℕ → ℕ) (node : NodeId) where
     rest_says : (p : Point) → IsBeside node p → says (staged_items sum node len staged) p ≡ None
     unfolding extents
     rest_says p a =
-        ap (λ t. cond t (Some (entry_of (ObjectKey node.store node.id) (FileValue len) p)) (says (map (staged_extent sum node) staged) p)) (object_not p a.object) ∙ says_other staged p a.file a.device
+        ap (λ t. cond t (Some (entry_in (ObjectKey node.store node.id) (FileValue len) p)) (says (map (staged_extent sum node) staged) p)) (object_not p a.object) ∙ says_other staged p a.file a.device
 
     entry_says : (at : ℕ) (text : List ℕ) → map (λ s. s.index) staged ≡ covered at text → 0 < length text → (i : ℕ) (s : StagedBlock) → slice_get staged i ≡ Some s
         → extents staged (AtFileBlock node.store node.id s.index) ≡ Some (Some (BlockEntry s.block (sum s.bytes)))

@@ -6,10 +6,10 @@ use Rattle.std.proofs.lemmas.Bool.{eqb-true}
 use Rattle.std.proofs.lemmas.List.{length-replicate}
 use Rattle.fx_item.specs.Item.{ObjectKey, FileValue}
 use Rattle.fx_item.specs.Look.{value_of_entry}
-use Rattle.fx_item.specs.Overlay.{Point, AtKey, AtFileBlock, Entry, ValueEntry, BlockEntry}
-use Rattle.fx_plain.specs.declared.contents.TheConstants.{BLOCK_BYTES}
+use Rattle.fx_item.specs.Overlay.{Point, AtKey, AtFileBlock, Entry, ValueEntry, BlockEntry, Said, or_older, over}
+use Rattle.fx_base.specs.declared.block.TheConstants.{BLOCK_BYTES}
 use Rattle.fx_namespace.specs.Nodes.{NodeId}
-use Rattle.fx_contents.specs.Points.{ItemsSay, Points, entry_after, newer_or, points_after, said_over, block_in, named, device_block}
+use Rattle.fx_contents.specs.Points.{Points, entry_after, points_after, block_in, named, device_block}
 use Rattle.fx_contents.specs.Files.{byte_at, bytes_of_block}
 use Rattle.fx_contents.specs.Writes.{is_covered, patched, written_byte, IsWriting}
 use Rattle.fx_contents.specs.Staged.{StagedBlock, HasWholeBlocks, SaysWrite, AreStored, ArePatched}
@@ -29,22 +29,22 @@ staged_at (s ∷ rest) k e = by (λ h. staged_at rest k h) (nat_eq s.index k) re
 
 -- ---- what a list of items says, and leaves
 
-pub says_so : (m : Points) (said : ItemsSay) (p : Point) (entry : Option Entry) → said p ≡ Some entry → points_after m said p ≡ entry
+pub says_so : (m : Points) (said : Said) (p : Point) (entry : Option Entry) → said p ≡ Some entry → points_after m said p ≡ entry
 says_so m said p entry e = ap (λ o. entry_after o (m p)) e
 
-pub says_nothing : (m : Points) (said : ItemsSay) (p : Point) → said p ≡ None → points_after m said p ≡ m p
+pub says_nothing : (m : Points) (said : Said) (p : Point) → said p ≡ None → points_after m said p ≡ m p
 says_nothing m said p e = ap (λ o. entry_after o (m p)) e
 
 -- two steps of one line are one commit
-pub two_steps : (m : Points) (first next : ItemsSay) (p : Point) → points_after (points_after m first) next p ≡ points_after m (said_over next first) p
+pub two_steps : (m : Points) (first next : Said) (p : Point) → points_after (points_after m first) next p ≡ points_after m (over next first) p
 two_steps m first next p = by (next p) (first p) where
-  by : (o l : Option (Option Entry)) → entry_after o (entry_after l (m p)) ≡ entry_after (newer_or o l) (m p)
+  by : (o l : Option (Option Entry)) → entry_after o (entry_after l (m p)) ≡ entry_after (or_older o l) (m p)
   by (Some x) l = refl
   by None l = refl
 
 -- ---- a commit that writes
 
-module _ (m : Points) (said : ItemsSay) (f g : ℕ → List ℕ) (node : NodeId) (at : ℕ) (text : List ℕ) (len : ℕ) (staged : List StagedBlock) where
+module _ (m : Points) (said : Said) (f g : ℕ → List ℕ) (node : NodeId) (at : ℕ) (text : List ℕ) (len : ℕ) (staged : List StagedBlock) where
   pub commit_writes : 0 < length text → named m (ObjectKey node.store node.id) ≡ Some (FileValue len) → HasWholeBlocks m f node
       → ArePatched m f node at text staged → SaysWrite said node (max len (at + length text)) at text staged → AreStored m f g node at text staged
       → IsWriting m (points_after m said) f g node at text len

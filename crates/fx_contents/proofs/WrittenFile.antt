@@ -4,7 +4,7 @@ use Rattle.std.specs.Prelude.{Option, Some, None, is_some}
 use Rattle.std.specs.FinSet as set
 use Rattle.std.proofs.lemmas.Bool.{cases_lt, cases_Bool}
 use Rattle.fx_plain.specs.Node.{written}
-use Rattle.fx_plain.specs.declared.contents.TheConstants.{BLOCK_BYTES}
+use Rattle.fx_base.specs.declared.block.TheConstants.{BLOCK_BYTES}
 use Rattle.fx_contents.specs.Files.{byte_in, byte_at, file_of}
 use Rattle.fx_contents.specs.Writes.{written_byte, is_covered}
 use Rattle.fx_contents.proofs.FileBytes

@@ -7,7 +7,7 @@ use Rattle.fx_item.specs.Overlay.{AtFileBlock, Entry}
 use Rattle.fx_plain.specs.Bare.{IsWritten}
 use Rattle.fx_plain.specs.Node.{File, written}
 use Rattle.fx_plain.specs.Tree.{Tree}
-use Rattle.fx_plain.specs.declared.contents.TheConstants.{BLOCK_BYTES}
+use Rattle.fx_base.specs.declared.block.TheConstants.{BLOCK_BYTES}
 use Rattle.fx_plain.proofs.Views.{insert_same}
 use Rattle.fx_namespace.specs.Nodes.{NodeId, node_at}
 use Rattle.fx_contents.specs.Points.{Points, named, block_in, device_block}

@@ -11,8 +11,8 @@ use Rattle.fx_contents.specs.Standing.{HasObject, IsInFile}
 
 -- What is wrong at a node of a disk with so many blocks and a ring of so many.
 pub data IsAmissAt (ring disk : ℕ) (m : Points) (node : NodeId) : Type 0 where
-  -- The names are wrong there. A node that waits in the graveyard has no Object for them: a child that
-  -- leads to it, or that it has, is wrong.
+  -- The names are wrong there. A node that waits in the graveyard has no Object for them: a child
+  -- that leads to it, or that it has, is wrong.
   NamesAmiss : IsWrongAt (named m) node → IsAmissAt ring disk m node
   -- it is the root, and waits in the graveyard
   WaitingRoot : (value : PlainValue) → node ≡ root_node → value_under m (GraveKey 0 0) ≡ Some value

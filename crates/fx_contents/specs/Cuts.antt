@@ -3,17 +3,17 @@ use Rattle.std.specs.Prelude.{◌≡◌, ◌≢◌, ◌⊎◌, ℕ, ◌+◌, ◌
 use Rattle.std.specs.FinMap as map
 use Rattle.std.specs.FinSet as set
 use Rattle.fx_item.specs.Item.{ObjectKey, FileValue}
-use Rattle.fx_item.specs.Overlay.{Point, AtKey, AtFileBlock, ValueEntry, BlockEntry}
+use Rattle.fx_item.specs.Overlay.{Point, AtKey, AtFileBlock, ValueEntry, BlockEntry, Said}
 use Rattle.fx_plain.specs.Node.{Attributes, Contents, File, grown}
 use Rattle.fx_plain.specs.Tree.{Tree}
-use Rattle.fx_plain.specs.declared.contents.TheConstants.{BLOCK_BYTES}
+use Rattle.fx_base.specs.declared.block.TheConstants.{BLOCK_BYTES}
 use Rattle.fx_namespace.specs.Nodes.{NodeId}
-use Rattle.fx_contents.specs.Points.{ItemsSay, Points, value_under, named, device_block}
+use Rattle.fx_contents.specs.Points.{Points, value_under, named, device_block}
 use Rattle.fx_contents.specs.Files.{byte_at}
 use Rattle.fx_contents.specs.Rewrites.{IsBeside}
 
--- The file with so many bytes: cut, or grown with zeros. Blocks that begin at or past the size are no
--- longer held.
+-- The file with so many bytes: cut, or grown with zeros. Blocks that begin at or past the size are
+-- no longer held.
 abbrev pub truncated : ℕ → Contents → Contents
 truncated size contents = record {
   bytes = take size (grown size contents.bytes);
@@ -45,8 +45,9 @@ IsEdge size len k =
 abbrev pub IsFront : (size len k : ℕ) → Type 0
 IsFront size len k = ((k + 1) * BLOCK_BYTES ≤ size) ⊎ (len ≤ size)
 
--- A file is truncated: its Object tells the size, blocks from it on are taken away, a held block in which
--- a lesser size lies has a block of the device with the old bytes up to it, and nothing else changes.
+-- A file is truncated: its Object tells the size, blocks from it on are taken away, a held block in
+-- which a lesser size lies has a block of the device with the old bytes up to it, and nothing else
+-- changes.
 pub record IsCutting (m n : Points) (f g : ℕ → List ℕ) (node : NodeId) (size len : ℕ) : Type 0 where
   pub before : named m (ObjectKey node.store node.id) ≡ Some (FileValue len)
   pub after : value_under n (ObjectKey node.store node.id) ≡ Some (FileValue size)
@@ -62,9 +63,9 @@ pub record IsCutting (m n : Points) (f g : ℕ → List ℕ) (node : NodeId) (si
   pub same : (other : NodeId) (k block : ℕ) → device_block m other k ≡ Some block
       → (other ≢ node) ⊎ (IsFront size len k) → g block ≡ f block
 
--- What a commit's items say of a truncation: the file's Object, that no blocks stand from the size on, the
--- one cut block with its bytes on the device, and else nothing but of blocks of the device.
-pub record SaysCut (m : Points) (said : ItemsSay) (f g : ℕ → List ℕ) (node : NodeId)
+-- What a commit's items say of a truncation: the file's Object, that no blocks stand from the size
+-- on, the one cut block with its bytes on the device, and else nothing but of blocks of the device.
+pub record SaysCut (m : Points) (said : Said) (f g : ℕ → List ℕ) (node : NodeId)
     (size len : ℕ) : Type 0 where
   pub object : said (AtKey (ObjectKey node.store node.id))
       ≡ Some (Some (ValueEntry (FileValue size)))

@@ -3,7 +3,7 @@ use Rattle.std.specs.Prelude.{ℕ, ◌+◌, ◌-◌, ◌/◌, ◌%◌, List, map
 use Rattle.std.specs.List.{range_with_len}
 use Rattle.std.specs.FinSet as set
 use Rattle.fx_plain.specs.Node.{Contents}
-use Rattle.fx_plain.specs.declared.contents.TheConstants.{BLOCK_BYTES}
+use Rattle.fx_base.specs.declared.block.TheConstants.{BLOCK_BYTES}
 
 -- byte j of a block of the device; of a hole, zero
 abbrev pub byte_in : (ℕ → List ℕ) → Option ℕ → ℕ → ℕ
@@ -18,8 +18,8 @@ byte_at blocks held i = byte_in blocks (held (i / BLOCK_BYTES)) (i % BLOCK_BYTES
 abbrev pub blocks_for : ℕ → ℕ
 blocks_for len = (len + (BLOCK_BYTES - 1)) / BLOCK_BYTES
 
--- The file of that length: the bytes of its blocks, zero in holes and cut to the length; and held are
--- those of its blocks that the device has.
+-- The file of that length: the bytes of its blocks, zero in holes and cut to the length; and held
+-- are those of its blocks that the device has.
 unfoldable pub file_of : (ℕ → List ℕ) → ℕ → (ℕ → Option ℕ) → Contents
 file_of blocks len held = record {
   bytes = map (byte_at blocks held) (range_with_len 0 len);

@@ -1,9 +1,9 @@
 -- A write with new blocks from a number on, written out: the conditions of a write can be met.
 use Rattle.std.specs.Prelude.{ℕ, ◌+◌, ◌-◌, ◌==◌, ◌&&◌, nat_lt, max, List, length, Option, None, Some, if◌then◌else◌}
 use Rattle.fx_item.specs.Item.{PlainKey, ObjectKey, AttributeKey, ExtentKey, ChildKey, GraveKey, AllocationKey, FileValue}
-use Rattle.fx_item.specs.Overlay.{AtKey, AtFileBlock, AtDeviceBlock, Entry, ValueEntry, BlockEntry}
+use Rattle.fx_item.specs.Overlay.{AtKey, AtFileBlock, AtDeviceBlock, Entry, ValueEntry, BlockEntry, Said}
 use Rattle.fx_namespace.specs.Nodes.{NodeId}
-use Rattle.fx_contents.specs.Points.{ItemsSay, Points, device_block}
+use Rattle.fx_contents.specs.Points.{Points, device_block}
 use Rattle.fx_contents.specs.Files.{bytes_of_block}
 use Rattle.fx_contents.specs.Writes.{is_covered, patched}
 
@@ -18,7 +18,7 @@ length_said node len (GraveKey store id) = None
 length_said node len (AllocationKey start stop) = None
 
 -- what the items say: block k of the file is block `base + k` of the device
-abbrev pub planned_write : NodeId → (base at : ℕ) → List ℕ → ℕ → ItemsSay
+abbrev pub planned_write : NodeId → (base at : ℕ) → List ℕ → ℕ → Said
 planned_write node base at text len (AtKey key) =
     length_said node (max len (at + length text)) key
 planned_write node base at text len (AtFileBlock store id k) =

@@ -2,7 +2,7 @@
 use Rattle.std.specs.Prelude.{◌≡◌, ℕ, List, Option, None, Some, option_map}
 use Rattle.fx_item.specs.Item.{ObjectKey, AttributeKey, ExtentKey, ChildKey, GraveKey, AllocationKey, PlainValue, AttributeValue}
 use Rattle.fx_item.specs.Look.{ItemMap, value_of_entry}
-use Rattle.fx_item.specs.Overlay.{Point, AtKey, AtFileBlock, AtDeviceBlock, Entry, ValueEntry, BlockEntry}
+use Rattle.fx_item.specs.Overlay.{Point, AtKey, AtFileBlock, AtDeviceBlock, Entry, ValueEntry, BlockEntry, Said}
 use Rattle.fx_namespace.specs.Nodes.{NodeId}
 
 -- the entry that stands at each point, if one does
@@ -62,23 +62,11 @@ only_values items (AtKey key) = option_map ValueEntry (items key)
 only_values items (AtFileBlock store id place) = None
 only_values items (AtDeviceBlock block) = None
 
--- What a list of items says at each point: nothing, that no entry stands there, or which one does.
-abbrev pub ItemsSay : Type 0
-ItemsSay = Point → Option (Option Entry)
-
 -- what is said at a point goes before what stood there
 abbrev pub entry_after : Option (Option Entry) → Option Entry → Option Entry
 entry_after (Some entry) old = entry
 entry_after None old = old
 
--- what stands at each point after one more list of items
-abbrev pub points_after : Points → ItemsSay → Points
+-- what stands at each point after one more list of items, which says this
+abbrev pub points_after : Points → Said → Points
 points_after m said p = entry_after (said p) (m p)
-
-abbrev pub newer_or : (newer older : Option (Option Entry)) → Option (Option Entry)
-newer_or (Some entry) older = Some entry
-newer_or None older = older
-
--- two lists of items as one, the newer one first
-abbrev pub said_over : (newer older : ItemsSay) → ItemsSay
-said_over newer older p = newer_or (newer p) (older p)

@@ -18,7 +18,8 @@ pub record GainsEmpty (m n : Points) (parent : NodeId) (name : List ℕ) (node :
       → p ≢ AtKey (ChildKey parent.store parent.id name)
       → ((b : ℕ) → p ≢ AtDeviceBlock b) → n p ≡ m p
 
--- A node is removed: its entry in a directory goes, it waits in the graveyard, and all that it has stays.
+-- A node is removed: its entry in a directory goes, it waits in the graveyard, and all that it has
+-- stays.
 pub record Buries (m n : Points) (parent : NodeId) (name : List ℕ) (node : NodeId) : Type 0 where
   pub entry : value_under m (ChildKey parent.store parent.id name)
       ≡ Some (ChildValue node.store node.id)

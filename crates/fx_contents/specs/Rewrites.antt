@@ -2,7 +2,7 @@
 use Rattle.std.specs.Prelude.{◌≡◌, ◌≢◌, ℕ, ◌*◌, ◌<◌, List, Some}
 use Rattle.fx_item.specs.Item.{ObjectKey, FileValue}
 use Rattle.fx_item.specs.Overlay.{Point, AtKey, AtFileBlock, AtDeviceBlock, Entry}
-use Rattle.fx_plain.specs.declared.contents.TheConstants.{BLOCK_BYTES}
+use Rattle.fx_base.specs.declared.block.TheConstants.{BLOCK_BYTES}
 use Rattle.fx_namespace.specs.Nodes.{NodeId}
 use Rattle.fx_contents.specs.Points.{Points, value_under, named, device_block}
 
@@ -12,8 +12,8 @@ pub record IsBeside (node : NodeId) (p : Point) : Type 0 where
   pub file : (k : ℕ) → p ≢ AtFileBlock node.store node.id k
   pub device : (b : ℕ) → p ≢ AtDeviceBlock b
 
--- A file's Object tells a length in place of another, its blocks begin within it, nothing else is told
--- anew but for blocks of the device, and the blocks of all other files hold what they held.
+-- A file's Object tells a length in place of another, its blocks begin within it, nothing else is
+-- told anew but for blocks of the device, and the blocks of all other files hold what they held.
 pub record IsRewriting (m n : Points) (f g : ℕ → List ℕ) (node : NodeId)
     (old new : ℕ) : Type 0 where
   pub before : named m (ObjectKey node.store node.id) ≡ Some (FileValue old)

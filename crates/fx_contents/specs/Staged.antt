@@ -2,11 +2,11 @@
 use Rattle.std.specs.Prelude.{◌≡◌, ℕ, ◌+◌, false, List, [], ◌∷◌, length, map, Some, None}
 use Rattle.std.specs.List.{slice_get}
 use Rattle.fx_item.specs.Item.{ObjectKey, ExtentKey, FileValue, ExtentValue, PlainItem}
-use Rattle.fx_item.specs.Overlay.{Point, AtKey, AtFileBlock, ValueEntry, BlockEntry}
+use Rattle.fx_item.specs.Overlay.{Point, AtKey, AtFileBlock, ValueEntry, BlockEntry, Said}
 use Rattle.fx_plain.specs.Node.{covered}
-use Rattle.fx_plain.specs.declared.contents.TheConstants.{BLOCK_BYTES}
+use Rattle.fx_base.specs.declared.block.TheConstants.{BLOCK_BYTES}
 use Rattle.fx_namespace.specs.Nodes.{NodeId}
-use Rattle.fx_contents.specs.Points.{ItemsSay, Points, device_block}
+use Rattle.fx_contents.specs.Points.{Points, device_block}
 use Rattle.fx_contents.specs.Files.{bytes_of_block}
 use Rattle.fx_contents.specs.Rewrites.{IsBeside}
 use Rattle.fx_contents.specs.Writes.{IsUncovered, is_covered, patched}
@@ -29,9 +29,9 @@ pub record ArePatched (m : Points) (f : ℕ → List ℕ) (node : NodeId) (at : 
   pub bytes : (i : ℕ) (s : StagedBlock) → slice_get staged i ≡ Some s
       → s.bytes ≡ patched at text s.index (bytes_of_block f (device_block m node s.index))
 
--- What a commit's items say: the file's Object, the staged blocks, and else nothing but of blocks of the
--- device.
-pub record SaysWrite (said : ItemsSay) (node : NodeId) (len at : ℕ) (text : List ℕ)
+-- What a commit's items say: the file's Object, the staged blocks, and else nothing but of blocks
+-- of the device.
+pub record SaysWrite (said : Said) (node : NodeId) (len at : ℕ) (text : List ℕ)
     (staged : List StagedBlock) : Type 0 where
   pub object : said (AtKey (ObjectKey node.store node.id))
       ≡ Some (Some (ValueEntry (FileValue len)))
@@ -42,7 +42,8 @@ pub record SaysWrite (said : ItemsSay) (node : NodeId) (len at : ℕ) (text : Li
       → said (AtFileBlock node.store node.id k) ≡ None
   pub others : (p : Point) → IsBeside node p → said p ≡ None
 
--- The device holds the staged blocks, and in each live block what it held, but for the covered ones.
+-- The device holds the staged blocks, and in each live block what it held, but for the covered
+-- ones.
 pub record AreStored (m : Points) (f g : ℕ → List ℕ) (node : NodeId) (at : ℕ) (text : List ℕ)
     (staged : List StagedBlock) : Type 0 where
   pub stored : (i : ℕ) (s : StagedBlock) → slice_get staged i ≡ Some s → g s.block ≡ s.bytes

@@ -6,7 +6,7 @@ use Rattle.fx_item.specs.Look.{ItemMap}
 use Rattle.fx_item.specs.Overlay.{AtFileBlock, Entry}
 use Rattle.fx_plain.specs.Node.{Attributes, Contents, no_contents}
 use Rattle.fx_plain.specs.Tree.{Tree}
-use Rattle.fx_plain.specs.declared.contents.TheConstants.{BLOCK_BYTES}
+use Rattle.fx_base.specs.declared.block.TheConstants.{BLOCK_BYTES}
 use Rattle.fx_plain.specs.declared.kind.Kind.{Kind}
 use Rattle.fx_namespace.specs.Nodes.{NodeId, Stands, told_kind}
 use Rattle.fx_namespace.specs.Trees.{Holdings, IsTreeOf}
@@ -35,8 +35,8 @@ abbrev pub IsInFile : Points → (store id n : ℕ) → Type 0
 IsInFile m store id n = (len : ℕ) × (value_under m (ObjectKey store id) ≡ Some (FileValue len))
     × (n * BLOCK_BYTES < len)
 
--- Each block is of a file and begins within it, graves and attributes are of nodes that have an Object,
--- and the root has no grave. The graveyard counts.
+-- Each block is of a file and begins within it, graves and attributes are of nodes that have an
+-- Object, and the root has no grave. The graveyard counts.
 pub record AreWithin (m : Points) : Type 0 where
   pub root : value_under m (GraveKey 0 0) ≡ None
   pub extent : (store id n : ℕ) (entry : Entry) → m (AtFileBlock store id n) ≡ Some entry
@@ -74,7 +74,8 @@ pub record AreClearEnds (m : Points) (blocks : ℕ → List ℕ) : Type 0 where
       → device_block m node (len / BLOCK_BYTES) ≡ Some block
       → len % BLOCK_BYTES ≤ j → j < BLOCK_BYTES → get_or (blocks block) j 0 ≡ 0
 
--- Each block of a file lies on the disk past the superblocks and the ring, which have so many blocks.
+-- Each block of a file lies on the disk past the superblocks and the ring, which have so many
+-- blocks.
 pub record AreOnDisk (ring disk : ℕ) (m : Points) : Type 0 where
   pub block : (node : NodeId) (n block : ℕ) → device_block m node n ≡ Some block
       → (ring + 2 ≤ block) × (block < disk)

@@ -3,7 +3,7 @@ use Rattle.std.specs.Prelude.{◌≡◌, ◌≢◌, ◌⊎◌, ℕ, ◌+◌, ◌
 use Rattle.fx_item.specs.Item.{ObjectKey, FileValue}
 use Rattle.fx_item.specs.Overlay.{Point, AtFileBlock}
 use Rattle.fx_plain.specs.Node.{overwritten}
-use Rattle.fx_plain.specs.declared.contents.TheConstants.{BLOCK_BYTES}
+use Rattle.fx_base.specs.declared.block.TheConstants.{BLOCK_BYTES}
 use Rattle.fx_namespace.specs.Nodes.{NodeId}
 use Rattle.fx_contents.specs.Points.{Points, value_under, named, device_block}
 use Rattle.fx_contents.specs.Files.{byte_at}
@@ -33,13 +33,14 @@ piece_in at text n = take (BLOCK_BYTES - from_in at n) (drop (n * BLOCK_BYTES - 
 unfoldable pub patched : ℕ → List ℕ → ℕ → List ℕ → List ℕ
 patched at text n block = overwritten (from_in at n) (piece_in at text n) block
 
--- The block's entry does not change by the write: it is another file's, or the text does not cover it.
+-- The block's entry does not change by the write: it is another file's, or the text does not cover
+-- it.
 abbrev pub IsUncovered : NodeId → ℕ → List ℕ → NodeId → ℕ → Type 0
 IsUncovered node at text other k = (other ≢ node) ⊎ (is_covered at text k ≡ false)
 
--- A text is written: the file's Object tells its length, each covered block has a block of the device
--- with the old bytes and its part of the text, and nothing else changes. The block of the device may be
--- the one that was there, where an earlier step of the same line had put it there.
+-- A text is written: the file's Object tells its length, each covered block has a block of the
+-- device with the old bytes and its part of the text, and nothing else changes. The block of the
+-- device may be the one that was there, where an earlier step of the same line had put it there.
 pub record IsWriting (m n : Points) (f g : ℕ → List ℕ) (node : NodeId) (at : ℕ) (text : List ℕ)
     (len : ℕ) : Type 0 where
   pub before : named m (ObjectKey node.store node.id) ≡ Some (FileValue len)

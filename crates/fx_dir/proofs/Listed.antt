@@ -1,49 +1,112 @@
 -- The children of a node, found one after another.
 use Rattle.std.proofs.Common.{◌≡◌, ◌≢◌, inl, inr, ℕ, ◌<◌, ◌≤◌, ◌++◌, List, [], ◌∷◌, length, refl, sym, ap, subst, ◌∙◌, arith, Bool, true, false, cond, get_or, zero, suc}
-use Rattle.std.specs.Prelude.{Option, Some, None, IfSome, IsTrue, slice_get, count_by, Contains, ◌==◌, ◌&&◌}
+use Rattle.std.specs.Prelude.{Option, Some, None, IfSome, slice_get, count_by, Contains, ◌==◌, ◌&&◌}
 use Rattle.std.specs.Ordering.{is_le}
 use Rattle.std.specs.declared.cmp.Ordering.TheVariants.{Less}
 use Rattle.std.proofs.lemmas.Bool.{eqb-true, eq-eqb, and_parts}
 use Rattle.std.proofs.lemmas.Option.{slice_get_within}
 use Rattle.std.proofs.lemmas.List.Sums.{sum_by-cons}
-use Rattle.fx_item.specs.Item.{PlainKey, ObjectKey, AttributeKey, ExtentKey, ChildKey, GraveKey, AllocationKey, PlainItem}
-use Rattle.fx_item.specs.Look.{ItemMap, FindsFrom, IsFirstFrom}
+use Rattle.fx_item.specs.Item.{PlainKey, ObjectKey, AttributeKey, ExtentKey, ChildKey, GraveKey, AllocationKey, PlainItem, PlainValue}
+use Rattle.fx_item.specs.Look.{ItemMap, FindsLive, IsFirstLive, is_point_key, map_of}
+use Rattle.fx_item.specs.Meeting.{IsFirstKey}
+use Rattle.fx_item.specs.Overlay.{Said}
+use Rattle.fx_item.specs.Place.{Place, Upto, Below, begins, ends, place_cmp}
 use Rattle.fx_item.specs.Name.{name_cmp}
 use Rattle.fx_item.specs.Order.{key_cmp, rank}
 use Rattle.fx_item.specs.declared.lock.LockKey.{LockKey}
 use Rattle.fx_dir.specs.Children.{AreChildren, IsChild, IsFirstChild, child_name_at, name_under}
+use Rattle.fx_item.proofs.Between.{SameSpace, space_between}
+use Rattle.fx_item.proofs.Keys.{from_point, key_holds, order_holds}
+use Rattle.fx_item.proofs.PlaceOrder.{below_upto, either, le_upto, upto_le}
 use Rattle.fx_base.proofs.Lists.{got_kept, got_last, got_split}
-use Rattle.fx_dir.proofs.Order.{IsUpTo, below_from_test, below_next, below_or_up_to, child_between, children_in_order, cmp, less_up_to, not_up_to, up_to, up_to_from_next, up_to_itself, up_to_both}
+use Rattle.fx_dir.proofs.Order.{IsUpTo, below_next, below_or_up_to, children_in_order, cmp, less_up_to, not_up_to, up_to, up_to_from_next, up_to_itself, up_to_both}
+
+-- ---- where the keys of children lie
+
+-- where the key of a child begins
+abbrev place_of : LockKey → List ℕ → Place
+place_of at name = begins (ChildKey at.store at.id name)
+
+places_in_order : (at : LockKey) (a b : List ℕ) → place_cmp (place_of at a) (place_of at b) ≡ cmp a b
+places_in_order at a b =
+    sym (order_holds (ChildKey at.store at.id a) (ChildKey at.store at.id b) refl refl) ∙ children_in_order at.store at.id a b
+
+places_up_to : (at : LockKey) (a b : List ℕ) → IsUpTo a b → Upto (place_of at a) (place_of at b)
+places_up_to at a b h = le_upto (ap is_le (places_in_order at a b) ∙ h)
+
+names_up_to : (at : LockKey) (a b : List ℕ) → Upto (place_of at a) (place_of at b) → IsUpTo a b
+names_up_to at a b h = ap is_le (sym (places_in_order at a b)) ∙ upto_le h
+
+turned : {a b : Place} → SameSpace a b → SameSpace b a
+turned s = record { tree = sym s.tree; store = sym s.store; id = sym s.id; kind = sym s.kind }
+
+key_space : (k : PlainKey) → SameSpace (begins k) (ends k)
+key_space (ObjectKey s i) = record { tree = refl; store = refl; id = refl; kind = refl }
+key_space (AttributeKey s i name) = record { tree = refl; store = refl; id = refl; kind = refl }
+key_space (ExtentKey s i start stop) = record { tree = refl; store = refl; id = refl; kind = refl }
+key_space (ChildKey s i name) = record { tree = refl; store = refl; id = refl; kind = refl }
+key_space (GraveKey s i) = record { tree = refl; store = refl; id = refl; kind = refl }
+key_space (AllocationKey start stop) = record { tree = refl; store = refl; id = refl; kind = refl }
+
+-- A key that ends behind where a child's begins, and begins no later than another one's, is a child's.
+child_near : (k : PlainKey) (at : LockKey) (a b : List ℕ) → Below (place_of at a) (ends k) → Upto (begins k) (place_of at b) → (c : List ℕ) × (k ≡ ChildKey at.store at.id c)
+child_near k at a b reaches up = by_kind k near
+  where
+    near : SameSpace (begins k) (place_of at a)
+    near = elim (either (place_of at a) (begins k)) [
+      | inl low ↦ turned (space_between (place_of at a) (begins k) (place_of at b) (record { tree = refl; store = refl; id = refl; kind = refl }) low up)
+      | inr low ↦ space_between (begins k) (place_of at a) (ends k) (key_space k) (below_upto low) (below_upto reaches)
+    ]
+
+    by_kind : (k : PlainKey) → SameSpace (begins k) (place_of at a) → (c : List ℕ) × (k ≡ ChildKey at.store at.id c)
+    by_kind (ObjectKey s i) e = absurd (omega (arith, e.kind))
+    by_kind (AttributeKey s i name) e = absurd (omega (arith, e.kind))
+    by_kind (ExtentKey s i start stop) e = absurd (omega (arith, e.kind))
+    by_kind (ChildKey s i name) e = (name, ap (λ z. ChildKey z i name) e.store ∙ ap (λ z. ChildKey at.store z name) e.id)
+    by_kind (GraveKey s i) e = absurd (omega (arith, e.kind))
+    by_kind (AllocationKey start stop) e = absurd (omega (arith, e.tree))
 
 -- ---- the first child, by the first item
 
-module _ (m : ItemMap) (at : LockKey) (from : List ℕ) where
-  no_item : FindsFrom m (ChildKey at.store at.id from) None → IsFirstChild m at from None
-  no_item f other child = below_from_test from other (ap is_le (sym (children_in_order at.store at.id from other)) ∙ f (ChildKey at.store at.id other) child.0 child.1)
+-- it stands, and it does not
+both : (m : ItemMap) (at : LockKey) (name : List ℕ) → IsChild m at name → m (ChildKey at.store at.id name) ≡ None → ⊥
+both m at name child none = let e : None ≡ Some child.0 = sym none ∙ child.1 in cc
 
-  module _ (x : PlainItem) (f : IsFirstFrom m (ChildKey at.store at.id from) x) where
-    -- a child from the name on comes with or after the first item
-    after_first : (other : List ℕ) → IsChild m at other → IsUpTo from other → IsTrue (is_le (key_cmp x.key (ChildKey at.store at.id other)))
-    after_first other child up =
-        f.first (ChildKey at.store at.id other) child.0 child.1 (subst (λ r. IsTrue (is_le r)) (sym (children_in_order at.store at.id from other)) up)
+module _ (said : Said) (at : LockKey) (from : List ℕ) where
+  no_item : FindsLive said (place_of at from) None → IsFirstChild (map_of said) at from None
+  no_item f other child = elim (below_or_up_to from other) [
+    | inl a ↦ a
+    | inr a ↦ absurd (both (map_of said) at other child (key_holds said (ChildKey at.store at.id from) None f (ChildKey at.store at.id other) (places_up_to at from other a)))
+  ]
 
-    no_child : ((c : List ℕ) → x.key ≢ ChildKey at.store at.id c) → IsFirstChild m at from None
-    no_child other_key other child = elim (below_or_up_to from other) [
+  module _ (x : PlainItem) (f : IsFirstLive said (place_of at from) x) where
+    first_key : IsFirstKey said (ChildKey at.store at.id from) x
+    first_key = key_holds said (ChildKey at.store at.id from) (Some x) f
+
+    -- a child from the name on begins with or after the first item
+    after_first : (other : List ℕ) → IsChild (map_of said) at other → IsUpTo from other → Upto (begins x.key) (place_of at other)
+    after_first other child up = elim (either (begins x.key) (place_of at other)) [
       | inl a ↦ a
-      | inr a ↦ let b = child_between x.key at.store at.id from other f.from (after_first other child a) in absurd (other_key b.0 b.1)
+      | inr a ↦ absurd (both (map_of said) at other child (first_key.first (ChildKey at.store at.id other) (places_up_to at from other up) a))
     ]
 
-    is_child : (name : List ℕ) → x.key ≡ ChildKey at.store at.id name → IsFirstChild m at from (Some name)
+    no_child : ((c : List ℕ) → x.key ≢ ChildKey at.store at.id c) → IsFirstChild (map_of said) at from None
+    no_child other_key other child = elim (below_or_up_to from other) [
+      | inl a ↦ a
+      | inr a ↦ let b = child_near x.key at from other f.reaches (after_first other child a) in absurd (other_key b.0 b.1)
+    ]
+
+    is_child : (name : List ℕ) → x.key ≡ ChildKey at.store at.id name → IsFirstChild (map_of said) at from (Some name)
     is_child name e = (
-      (x.value, ap m (sym e) ∙ f.stands),
-      subst (λ r. IsTrue (is_le r)) (children_in_order at.store at.id from name) (subst (λ k. IsTrue (is_le (key_cmp (ChildKey at.store at.id from) k))) e f.from),
+      (x.value, ap (map_of said) (sym e) ∙ first_key.stands (ap is_point_key e)),
+      names_up_to at from name (subst (λ k. Upto (place_of at from) (begins k)) e (from_point x.key (ChildKey at.store at.id from) (ap is_point_key e) f.reaches)),
       λ other child. elim (below_or_up_to from other) [
         | inl a ↦ inl a
-        | inr a ↦ inr (subst (λ r. IsTrue (is_le r)) (children_in_order at.store at.id name other) (subst (λ k. IsTrue (is_le (key_cmp k (ChildKey at.store at.id other)))) e (after_first other child a)))
+        | inr a ↦ inr (names_up_to at name other (subst (λ k. Upto (begins k) (place_of at other)) e (after_first other child a)))
       ],
     )
 
-    by_test : (s i : ℕ) (name : List ℕ) (b : Bool) → x.key ≡ ChildKey s i name → (s == at.store && i == at.id) ≡ b → IsFirstChild m at from (cond b (Some name) None)
+    by_test : (s i : ℕ) (name : List ℕ) (b : Bool) → x.key ≡ ChildKey s i name → (s == at.store && i == at.id) ≡ b → IsFirstChild (map_of said) at from (cond b (Some name) None)
     by_test s i name true e t =
         let p = and_parts (s == at.store) (i == at.id) t in
         is_child name (e ∙ ap (λ z. ChildKey z i name) (eqb-true s at.store p.0) ∙ ap (λ z. ChildKey at.store z name) (eqb-true i at.id p.1))
@@ -55,7 +118,7 @@ module _ (m : ItemMap) (at : LockKey) (from : List ℕ) where
         differs : (s i : ℕ) → (s == at.store && i == at.id) ≡ false → s ≡ at.store → i ≡ at.id → ⊥
         differs s i t a b = cc (sym t ∙ ap (λ z. z == at.store && i == at.id) a ∙ ap (λ z. at.store == at.store && z == at.id) b ∙ same)
 
-    by_key : (k : PlainKey) → x.key ≡ k → IsFirstChild m at from (name_under at k)
+    by_key : (k : PlainKey) → x.key ≡ k → IsFirstChild (map_of said) at from (name_under at k)
     by_key (ObjectKey store id) e = no_child (λ c q. cc (sym e ∙ q))
     by_key (AttributeKey store id name) e = no_child (λ c q. cc (sym e ∙ q))
     by_key (ExtentKey store id start stop) e = no_child (λ c q. cc (sym e ∙ q))
@@ -63,9 +126,15 @@ module _ (m : ItemMap) (at : LockKey) (from : List ℕ) where
     by_key (GraveKey store id) e = no_child (λ c q. cc (sym e ∙ q))
     by_key (AllocationKey start stop) e = no_child (λ c q. cc (sym e ∙ q))
 
-  pub first_child : (item : Option PlainItem) → FindsFrom m (ChildKey at.store at.id from) item → IsFirstChild m at from (child_name_at at item)
+  pub first_child : (item : Option PlainItem) → FindsLive said (place_of at from) item → IsFirstChild (map_of said) at from (child_name_at at item)
   first_child None f = no_item f
   first_child (Some x) f = by_key x f x.key refl
+
+-- the key of the child that is found is among the keys
+pub listed_child : (m : ItemMap) (at : LockKey) (from : List ℕ) (keys : List PlainKey) → ((key : PlainKey) (value : PlainValue) → m key ≡ Some value → Contains keys key)
+    → (found : Option (List ℕ)) → IsFirstChild m at from found → IfSome found (λ (name : List ℕ). Contains keys (ChildKey at.store at.id name))
+listed_child m at from keys listed None f = tt
+listed_child m at from keys listed (Some name) f = listed (ChildKey at.store at.id name) f.0.0 f.0.1
 
 -- ---- the children so far
 

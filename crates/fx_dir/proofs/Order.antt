@@ -1,5 +1,5 @@
 -- The order of names, which are lists of numbers, and of the keys of a directory's children.
-use Rattle.std.proofs.Common.{◌≡◌, ◌⊎◌, ℕ, ◌++◌, List, [], ◌∷◌, ap, arith, get_or, false}
+use Rattle.std.proofs.Common.{◌≡◌, ◌⊎◌, ℕ, ◌++◌, List, [], ◌∷◌, false}
 use Rattle.std.specs.Prelude.{IsTrue}
 use Rattle.std.specs.Cmp.{nat_cmp_total}
 use Rattle.std.specs.Cmp.Lexicographic.{slice_cmp, nat_list_cmp_total}
@@ -8,8 +8,8 @@ use Rattle.std.specs.Ordering.{is_le, nat_cmp}
 use Rattle.std.specs.declared.cmp.Ordering.{Ordering}
 use Rattle.std.specs.declared.cmp.Ordering.TheVariants.{Less, Equal}
 use Rattle.fx_base.proofs.TotalOrders as orders
-use Rattle.fx_item.specs.Item.{PlainKey, ObjectKey, AttributeKey, ExtentKey, ChildKey, GraveKey, AllocationKey}
-use Rattle.fx_item.specs.Order.{key_cmp, rank}
+use Rattle.fx_item.specs.Item.{ChildKey}
+use Rattle.fx_item.specs.Order.{key_cmp}
 
 abbrev pub cmp : List ℕ → List ℕ → Ordering
 cmp = slice_cmp nat_cmp
@@ -46,9 +46,6 @@ up_to_both = orders.up_to_both nat_list_cmp_total exact
 pub not_up_to : (x y : List ℕ) → cmp y x ≡ Less → is_le (cmp x y) ≡ false
 not_up_to = orders.not_up_to nat_list_cmp_total exact
 
-pub below_from_test : (x y : List ℕ) → is_le (cmp x y) ≡ false → cmp y x ≡ Less
-below_from_test = orders.below_from_test nat_list_cmp_total exact
-
 -- ---- the name just above a name
 
 pub below_next : (x n : List ℕ) → IsUpTo x n → cmp x (n ++ 0 ∷ []) ≡ Less
@@ -61,17 +58,3 @@ up_to_from_next = orders.up_to_from_next
 
 pub children_in_order : (s i : ℕ) (a b : List ℕ) → key_cmp (ChildKey s i a) (ChildKey s i b) ≡ cmp a b
 children_in_order s i a b = orders.same_front nat_cmp_total nat_cmp-IsAntisymmetric (0 ∷ s ∷ i ∷ 4 ∷ []) a b
-
-child_of_rank : (k : PlainKey) (s i : ℕ) (c : List ℕ) → rank k ≡ 0 ∷ s ∷ i ∷ 4 ∷ c → k ≡ ChildKey s i c
-child_of_rank (ObjectKey store id) s i c e = absurd (omega (arith, ap (λ l. get_or l 3 0) e))
-child_of_rank (AttributeKey store id name) s i c e = absurd (omega (arith, ap (λ l. get_or l 3 0) e))
-child_of_rank (ExtentKey store id start stop) s i c e = absurd (omega (arith, ap (λ l. get_or l 3 0) e))
-child_of_rank (ChildKey store id name) s i c e = cc
-child_of_rank (GraveKey store id) s i c e = absurd (omega (arith, ap (λ l. get_or l 3 0) e))
-child_of_rank (AllocationKey start stop) s i c e = absurd (omega (arith, ap (λ l. get_or l 0 0) e))
-
--- a key between those of two children of a node is one of a child
-pub child_between : (k : PlainKey) (s i : ℕ) (a b : List ℕ) → IsTrue (is_le (key_cmp (ChildKey s i a) k)) → IsTrue (is_le (key_cmp k (ChildKey s i b))) → (c : List ℕ) × (k ≡ ChildKey s i c)
-child_between k s i a b low high =
-    let c = orders.between nat_cmp_total nat_cmp-IsAntisymmetric (0 ∷ s ∷ i ∷ 4 ∷ []) a b (rank k) low high in
-    (c.0, child_of_rank k s i c.0 c.1)

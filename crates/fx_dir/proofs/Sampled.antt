@@ -1,147 +1,139 @@
--- The first item from a key on, looked for in a list item by item.
-use Rattle.std.proofs.Common.{◌≡◌, ◌⊎◌, inl, inr, ℕ, ◌+◌, ◌<◌, ◌≤◌, ◌++◌, List, [], ◌∷◌, length, map, take, drop, drop-cons, get_or, add-one, refl, sym, ap, subst, ◌∙◌, arith, Bool, true, false, cond, suc}
+-- The first item from a place on, looked for in a list item by item.
+use Rattle.std.proofs.Common.{◌≡◌, ◌<◌, ◌+◌, ◌++◌, ℕ, List, [], ◌∷◌, length, map, take, get_or, add-one, refl, sym, ap, ◌∙◌, arith, Bool, true, false, cond, suc}
 use Rattle.std.proofs.Math.Seq.{take-suc}
-use Rattle.std.proofs.lemmas.List.{drop_all, map-append}
-use Rattle.std.specs.Prelude.{Option, Some, None, IsTrue, Contains}
-use Rattle.std.specs.Cmp.{tied_itself}
-use Rattle.std.specs.Cmp.Lexicographic.{nat_list_cmp_total}
-use Rattle.std.specs.Ordering.{is_eq, is_gt, is_le, is_lt}
-use Rattle.std.specs.declared.cmp.Ordering.{Ordering}
-use Rattle.std.specs.declared.cmp.Ordering.TheVariants.{Less, Equal, Greater}
-use Rattle.fx_item.specs.Item.{PlainKey, PlainItem, PlainValue, key_of, value_of, item_of}
+use Rattle.std.proofs.lemmas.List.{map-append}
+use Rattle.std.specs.Prelude.{Option, Some, None, Contains}
+use Rattle.std.specs.Ordering.{is_le}
+use Rattle.fx_item.specs.Item.{PlainKey, PlainItem, PlainValue, key_of, item_of}
 use Rattle.fx_item.specs.declared.item.Item.{Item}
-use Rattle.fx_item.specs.Look.{FindsFrom, IsFirstFrom, is_from, value_in}
-use Rattle.fx_item.specs.Order.{key_cmp, rank}
-use Rattle.fx_item.specs.declared.item.Key.{Key}
-use Rattle.fx_item.specs.declared.item.Key.TheVariants as keys
-use Rattle.fx_base.proofs.Orderings.{less_from, not_less_reverse, not_up_to_from, up_to_from}
-use Rattle.fx_item.proofs.KeyOrder.{keys_exact}
-use Rattle.fx_dir.proofs.Order.{up_to, up_to_itself, less_up_to, not_below_itself}
+use Rattle.fx_item.specs.Look.{FindsFrom, FindsLive, IsFirstFrom, is_gone, map_of}
+use Rattle.fx_item.specs.Overlay.{AtKey, Entry, Point, Said, covers, entry_in, or_older, says, standing}
+use Rattle.fx_item.specs.Place.{Below, Place, Upto, begins, ends, place_cmp}
+use Rattle.fx_item.proofs.Covered.{before_not, behind_not, covers_below, same_key_is}
+use Rattle.fx_item.proofs.Keys.{from_point, map_none}
+use Rattle.fx_item.proofs.Between.{not_empty}
+use Rattle.fx_item.proofs.PlaceOrder.{below_then, below_upto, le_upto, not_le_below, upto_upto}
+use Rattle.fx_namespace.proofs.Items.{covers_key}
+use Rattle.fx_dir.specs.Sample.{IsPlain}
 
 -- ---- one more item
 
--- what stands in a list with one more item stood before, or is the last
-Stood : List PlainItem → PlainItem → PlainKey → PlainValue → Type 0
-Stood xs x key v = (value_in xs key ≡ Some v) ⊎ ((value_in xs key ≡ None) × (key ≡ x.key) × (v ≡ x.value))
-
-last_value : (x : PlainItem) (key : PlainKey) (v : PlainValue) (o : Ordering) → key_cmp x.key key ≡ o → cond (is_eq o) (Some x.value) None ≡ Some v → (key ≡ x.key) × (v ≡ x.value)
-last_value x key v Equal e is = (sym (keys_exact x.key key e), cc)
-last_value x key v Less e is = absurd (cc is)
-last_value x key v Greater e is = absurd (cc is)
-
-stood : (xs : List PlainItem) (x : PlainItem) (key : PlainKey) (v : PlainValue) → value_in (xs ++ x ∷ []) key ≡ Some v → Stood xs x key v
-unfolding Stood
-stood [] x key v e = let l = last_value x key v (key_cmp x.key key) refl e in inr (refl, l.0, l.1)
-stood (y ∷ xs) x key v e = by_test (is_eq (key_cmp y.key key)) (stood xs x key v) e
+says_more : (xs : List PlainItem) (x : PlainItem) (p : Point) → says (xs ++ x ∷ []) p ≡ or_older (says xs p) (says (x ∷ []) p)
+says_more [] x p = refl
+says_more (y ∷ xs) x p = by_test (covers y.key p) (says_more xs x p)
   where
-    by_test : (b : Bool) → (value_in (xs ++ x ∷ []) key ≡ Some v → Stood xs x key v) → cond b (Some y.value) (value_in (xs ++ x ∷ []) key) ≡ Some v
-        → (cond b (Some y.value) (value_in xs key) ≡ Some v) ⊎ ((cond b (Some y.value) (value_in xs key) ≡ None) × (key ≡ x.key) × (v ≡ x.value))
-    by_test true ih e = inl e
-    by_test false ih e = ih e
+    by_test : (b : Bool) → says (xs ++ x ∷ []) p ≡ or_older (says xs p) (says (x ∷ []) p)
+        → cond b (Some (entry_in y.key y.value p)) (says (xs ++ x ∷ []) p) ≡ or_older (cond b (Some (entry_in y.key y.value p)) (says xs p)) (says (x ∷ []) p)
+    by_test true ih = refl
+    by_test false ih = ih
 
-stays : (xs : List PlainItem) (x : PlainItem) (key : PlainKey) (v : PlainValue) → value_in xs key ≡ Some v → value_in (xs ++ x ∷ []) key ≡ Some v
-stays [] x key v e = absurd (cc e)
-stays (y ∷ xs) x key v e = by_test (is_eq (key_cmp y.key key)) (stays xs x key v) e
-  where
-    by_test : (b : Bool) → (value_in xs key ≡ Some v → value_in (xs ++ x ∷ []) key ≡ Some v) → cond b (Some y.value) (value_in xs key) ≡ Some v → cond b (Some y.value) (value_in (xs ++ x ∷ []) key) ≡ Some v
-    by_test true ih e = e
-    by_test false ih e = ih e
+module _ (xs : List PlainItem) (x : PlainItem) (p : Point) where
+  alone : (b : Bool) → covers x.key p ≡ b → says (x ∷ []) p ≡ cond b (Some (entry_in x.key x.value p)) None
+  alone b e = ap (λ t. cond t (Some (entry_in x.key x.value p)) None) e
 
-comes : (xs : List PlainItem) (x : PlainItem) → value_in xs x.key ≡ None → value_in (xs ++ x ∷ []) x.key ≡ Some x.value
-comes [] x e = ap (λ o. cond (is_eq o) (Some x.value) None) (tied_itself nat_list_cmp_total (rank x.key))
-comes (y ∷ xs) x e = by_test (is_eq (key_cmp y.key x.key)) (comes xs x) e
-  where
-    by_test : (b : Bool) → (value_in xs x.key ≡ None → value_in (xs ++ x ∷ []) x.key ≡ Some x.value) → cond b (Some y.value) (value_in xs x.key) ≡ None → cond b (Some y.value) (value_in (xs ++ x ∷ []) x.key) ≡ Some x.value
-    by_test true ih e = absurd (cc e)
-    by_test false ih e = ih e
+  -- what the list says stays
+  stays : (e : Option Entry) → says xs p ≡ Some e → says (xs ++ x ∷ []) p ≡ Some e
+  stays e h = says_more xs x p ∙ ap (λ o. or_older o (says (x ∷ []) p)) h
 
-pub from_is : (k : Key) (other : PlainKey) → is_from (key_of k) other ≡ is_le (key_cmp (key_of k) other)
-from_is (keys.Object store id) other = refl
-from_is (keys.Child store id name) other = refl
+  -- and where it says nothing, the item speaks
+  comes : says xs p ≡ None → covers x.key p ≡ true → says (xs ++ x ∷ []) p ≡ Some (entry_in x.key x.value p)
+  comes h c = says_more xs x p ∙ ap (λ o. or_older o (says (x ∷ []) p)) h ∙ alone true c
 
-module _ (xs : List PlainItem) (x : PlainItem) (key : PlainKey) where
-  -- an item before the key is not looked for
-  skipped : (best : Option PlainItem) → is_from key x.key ≡ false → FindsFrom (value_in xs) key best → FindsFrom (value_in (xs ++ x ∷ [])) key best
-  unfolding Stood
-  skipped None out f = λ other v e. elim (stood xs x other v e) [ inl a ↦ f other v a | inr a ↦ ap (is_from key) a.1 ∙ out ]
-  skipped (Some b) out f = record {
-    stands = stays xs x b.key b.value f.stands;
-    from = f.from;
-    first = λ other v e up. elim (stood xs x other v e) [ inl a ↦ f.first other v a up | inr a ↦ absurd (cc (sym up ∙ ap (is_from key) a.1 ∙ out)) ];
+  silent : says xs p ≡ None → covers x.key p ≡ false → says (xs ++ x ∷ []) p ≡ None
+  silent h c = says_more xs x p ∙ ap (λ o. or_older o (says (x ∷ []) p)) h ∙ alone false c
+
+module _ (xs : List PlainItem) (x : PlainItem) (from : Place) where
+  -- an item that ends before the place is not looked for
+  passed_over : (best : Option PlainItem) → Upto (ends x.key) from → FindsFrom (says xs) from best → FindsFrom (says (xs ++ x ∷ [])) from best
+  passed_over None out f = λ p up. silent xs x p (f p up) (behind_not x.key p (upto_upto out up))
+  passed_over (Some b) out f = record {
+    good = f.good;
+    reaches = f.reaches;
+    stands = λ p up c. stays xs x p (entry_in b.key b.value p) (f.stands p up c);
+    first = λ p up low. silent xs x p (f.first p up low) (behind_not x.key p (upto_upto out up));
   }
 
-  -- the first one that is found
-  first_found : is_from key x.key ≡ true → FindsFrom (value_in xs) key None → IsFirstFrom (value_in (xs ++ x ∷ [])) key x
-  unfolding Stood
-  first_found up f = record {
-    stands = comes xs x (nothing (value_in xs x.key) refl);
-    from = up;
-    first = λ other v e is. elim (stood xs x other v e) [ inl a ↦ absurd (cc (sym is ∙ f other v a)) | inr a ↦ subst (λ k. IsTrue (is_le (key_cmp x.key k))) (sym a.1) (up_to_itself (rank x.key)) ];
-  }
-    where
-      nothing : (o : Option PlainValue) → value_in xs x.key ≡ o → value_in xs x.key ≡ None
-      nothing None e = e
-      nothing (Some v) e = absurd (cc (sym up ∙ f x.key v e))
+  module _ (plain : IsPlain x) (reaches : Below from (ends x.key)) where
+    -- the first one that is found
+    first_one : FindsFrom (says xs) from None → IsFirstFrom (says (xs ++ x ∷ [])) from x
+    first_one f = record {
+      good = plain.good;
+      reaches = reaches;
+      stands = λ p up c. comes xs x p (f p up) c;
+      first = λ p up low. silent xs x p (f p up) (before_not x.key p low);
+    }
 
-  -- one before the best so far
-  earlier : (b : PlainItem) → is_from key x.key ≡ true → key_cmp x.key b.key ≡ Less → IsFirstFrom (value_in xs) key b → IsFirstFrom (value_in (xs ++ x ∷ [])) key x
-  unfolding Stood
-  earlier b up less f = record {
-    stands = comes xs x (nothing (value_in xs x.key) refl);
-    from = up;
-    first = λ other v e is. elim (stood xs x other v e) [
-      | inl a ↦ up_to (rank x.key) (rank other) (less_up_to (rank x.key) (rank b.key) (rank other) less (f.first other v a is))
-      | inr a ↦ subst (λ k. IsTrue (is_le (key_cmp x.key k))) (sym a.1) (up_to_itself (rank x.key))
-    ];
-  }
-    where
-      nothing : (o : Option PlainValue) → value_in xs x.key ≡ o → value_in xs x.key ≡ None
-      nothing None e = e
-      nothing (Some v) e = absurd (not_below_itself (rank x.key) (less_up_to (rank x.key) (rank b.key) (rank x.key) less (f.first x.key v e up)))
+    -- one before the best so far
+    new_first : (b : PlainItem) → Upto (ends x.key) (begins b.key) → IsFirstFrom (says xs) from b → IsFirstFrom (says (xs ++ x ∷ [])) from x
+    new_first b before f = record {
+      good = plain.good;
+      reaches = reaches;
+      stands = λ p up c. comes xs x p (f.first p up (below_then (covers_below x.key p c) before)) c;
+      first = λ p up low. silent xs x p (f.first p up (below_then low (upto_upto starts before))) (before_not x.key p low);
+    }
+      where
+        starts : Upto (begins x.key) (ends x.key)
+        starts = below_upto (not_empty x.key plain.good.key)
 
-  -- one that does not come before the best so far
-  later : (b : PlainItem) → is_le (key_cmp b.key x.key) ≡ true → IsFirstFrom (value_in xs) key b → IsFirstFrom (value_in (xs ++ x ∷ [])) key b
-  unfolding Stood
-  later b up f = record {
-    stands = stays xs x b.key b.value f.stands;
-    from = f.from;
-    first = λ other v e is. elim (stood xs x other v e) [ inl a ↦ f.first other v a is | inr a ↦ subst (λ k. IsTrue (is_le (key_cmp b.key k))) (sym a.1) up ];
-  }
+    -- one that does not end before the best so far
+    same_first : (b : PlainItem) → Below (begins b.key) (ends x.key) → IsFirstFrom (says xs) from b → IsFirstFrom (says (xs ++ x ∷ [])) from b
+    same_first b behind f = record {
+      good = f.good;
+      reaches = f.reaches;
+      stands = λ p up c. stays xs x p (entry_in b.key b.value p) (f.stands p up c);
+      first = λ p up low. silent xs x p (f.first p up low) (before_not x.key p (below_then low (from_point x.key b.key plain.point behind)));
+    }
+
+-- ---- by the tests of the code
+
+-- the item ends at the place or before it, by a test
+abbrev pub ends_by : PlainItem → Place → Bool
+ends_by x place = is_le (place_cmp (ends x.key) place)
+
+pub skipped : (xs : List PlainItem) (x : PlainItem) (from : Place) (best : Option PlainItem) → ends_by x from ≡ true → FindsFrom (says xs) from best → FindsFrom (says (xs ++ x ∷ [])) from best
+skipped xs x from best e f = passed_over xs x from best (le_upto e) f
+
+pub found_first : (xs : List PlainItem) (x : PlainItem) (from : Place) → IsPlain x → ends_by x from ≡ false → FindsFrom (says xs) from None → FindsFrom (says (xs ++ x ∷ [])) from (Some x)
+found_first xs x from plain e f = first_one xs x from plain (not_le_below e) f
+
+pub found_before : (xs : List PlainItem) (x b : PlainItem) (from : Place) → IsPlain x → ends_by x from ≡ false → ends_by x (begins b.key) ≡ true → FindsFrom (says xs) from (Some b) → FindsFrom (says (xs ++ x ∷ [])) from (Some x)
+found_before xs x b from plain e before f = new_first xs x from plain (not_le_below e) b (le_upto before) f
+
+pub found_behind : (xs : List PlainItem) (x b : PlainItem) (from : Place) → IsPlain x → ends_by x from ≡ false → ends_by x (begins b.key) ≡ false → FindsFrom (says xs) from (Some b) → FindsFrom (says (xs ++ x ∷ [])) from (Some b)
+found_behind xs x b from plain e behind f = same_first xs x from plain (not_le_below e) b (not_le_below behind) f
+
+-- what is found and no tombstone is what stands first
+pub stands_first : (said : Said) (from : Place) (x : PlainItem) → is_gone x.value ≡ false → IsFirstFrom said from x → FindsLive said from (Some x)
+stands_first said from x alive f = record {
+  good = f.good;
+  alive = alive;
+  reaches = f.reaches;
+  stands = λ p up c. ap standing (f.stands p up c);
+  first = λ p up low. ap standing (f.first p up low);
+}
+
+pub nothing_stands : (said : Said) (from : Place) → FindsFrom said from None → FindsLive said from None
+nothing_stands said from f = λ p up. ap standing (f p up)
 
 -- ---- the items of a vector, one after another
-
-pub next_value : (items : List Item) (i : ℕ) (x : Item) (key : PlainKey) → i < length items → x ≡ get_or items i x
-    → value_in (map item_of (drop i items)) key ≡ cond (is_eq (key_cmp (key_of x.key) key)) (Some (value_of x.value)) (value_in (map item_of (drop (i + 1) items)) key)
-next_value items i x key less is =
-    ap (λ l. value_in (map item_of l) key) (drop-cons items i x less ∙ ap (λ y. y ∷ drop (suc i) items) (sym is))
-    ∙ ap (λ n. cond (is_eq (key_cmp (key_of x.key) key)) (Some (value_of x.value)) (value_in (map item_of (drop n items)) key)) (sym (add-one i))
-
-pub no_value : (items : List Item) (i : ℕ) (key : PlainKey) → length items ≤ i → value_in (map item_of (drop i items)) key ≡ None
-no_value items i key over = ap (λ l. value_in (map item_of l) key) (drop_all i items over)
 
 pub next_items : (items : List Item) (i : ℕ) (x : Item) → i < length items → x ≡ get_or items i x → map item_of (take (i + 1) items) ≡ map item_of (take i items) ++ item_of x ∷ []
 next_items items i x less is =
     ap (λ n. map item_of (take n items)) (add-one i) ∙ ap (map item_of) (take-suc items i x less ∙ ap (λ y. take i items ++ y ∷ []) (sym is)) ∙ map-append item_of (take i items) (x ∷ [])
 
-pub passed_over : (xs : List PlainItem) (x : PlainItem) (key : Key) (best : Option PlainItem) → is_gt (key_cmp (key_of key) x.key) ≡ true → FindsFrom (value_in xs) (key_of key) best → FindsFrom (value_in (xs ++ x ∷ [])) (key_of key) best
-passed_over xs x key best e f = skipped xs x (key_of key) best (from_is key x.key ∙ not_up_to_from (key_cmp (key_of key) x.key) e) f
-
-pub first_one : (xs : List PlainItem) (x : PlainItem) (key : Key) → is_gt (key_cmp (key_of key) x.key) ≡ false → FindsFrom (value_in xs) (key_of key) None → FindsFrom (value_in (xs ++ x ∷ [])) (key_of key) (Some x)
-first_one xs x key e f = first_found xs x (key_of key) (from_is key x.key ∙ up_to_from (key_cmp (key_of key) x.key) e) f
-
-pub new_first : (xs : List PlainItem) (x b : PlainItem) (key : Key) → is_gt (key_cmp (key_of key) x.key) ≡ false → is_lt (key_cmp x.key b.key) ≡ true → FindsFrom (value_in xs) (key_of key) (Some b) → FindsFrom (value_in (xs ++ x ∷ [])) (key_of key) (Some x)
-new_first xs x b key e l f = earlier xs x (key_of key) b (from_is key x.key ∙ up_to_from (key_cmp (key_of key) x.key) e) (less_from (key_cmp x.key b.key) l) f
-
-pub same_first : (xs : List PlainItem) (x b : PlainItem) (key : Key) → is_lt (key_cmp x.key b.key) ≡ false → FindsFrom (value_in xs) (key_of key) (Some b) → FindsFrom (value_in (xs ++ x ∷ [])) (key_of key) (Some b)
-same_first xs x b key l f = later xs x (key_of key) b (not_less_reverse (key_cmp x.key b.key) (key_cmp b.key x.key) (nat_list_cmp_total.antisymm (rank b.key) (rank x.key)) l) f
-
--- where something stands, its key is among the keys
-pub has_key : (items : List Item) (key : PlainKey) (value : PlainValue) → value_in (map item_of items) key ≡ Some value → Contains (map (λ (x : Item). key_of x.key) items) key
-has_key [] key value e = absurd (cc e)
-has_key (x ∷ items) key value e = by_order (key_cmp (key_of x.key) key) refl (has_key items key value) e
+-- where something is said of a key, it is among the keys
+said_key : (items : List Item) (key : PlainKey) (e : Option Entry) → says (map item_of items) (AtKey key) ≡ Some e → Contains (map (λ (x : Item). key_of x.key) items) key
+said_key [] key e h = absurd (cc h)
+said_key (x ∷ items) key e h = by_test (covers (key_of x.key) (AtKey key)) refl (said_key items key e) h
   where
-    by_order : (o : Ordering) → key_cmp (key_of x.key) key ≡ o → (value_in (map item_of items) key ≡ Some value → Contains (map (λ (x : Item). key_of x.key) items) key)
-        → cond (is_eq o) (Some (value_of x.value)) (value_in (map item_of items) key) ≡ Some value → Contains (map (λ (x : Item). key_of x.key) (x ∷ items)) key
-    by_order Equal is ih e = (0, omega arith, keys_exact (key_of x.key) key is)
-    by_order Less is ih e = let c = ih e in (suc c.0, (let l = c.1 in omega arith), c.2)
-    by_order Greater is ih e = let c = ih e in (suc c.0, (let l = c.1 in omega arith), c.2)
+    by_test : (b : Bool) → covers (key_of x.key) (AtKey key) ≡ b → (says (map item_of items) (AtKey key) ≡ Some e → Contains (map (λ (x : Item). key_of x.key) items) key)
+        → cond b (Some (entry_in (item_of x).key (item_of x).value (AtKey key))) (says (map item_of items) (AtKey key)) ≡ Some e → Contains (map (λ (x : Item). key_of x.key) (x ∷ items)) key
+    by_test true c ih h = (0, omega arith, same_key_is (key_of x.key) key (sym (covers_key (key_of x.key) key) ∙ c))
+    by_test false c ih h = let k = ih h in (suc k.0, (let l = k.1 in omega arith), k.2)
+
+pub has_key : (items : List Item) (key : PlainKey) (value : PlainValue) → map_of (says (map item_of items)) key ≡ Some value → Contains (map (λ (x : Item). key_of x.key) items) key
+has_key items key value e = by_said (says (map item_of items) (AtKey key)) refl
+  where
+    by_said : (o : Option (Option Entry)) → says (map item_of items) (AtKey key) ≡ o → Contains (map (λ (x : Item). key_of x.key) items) key
+    by_said None h = absurd (let k : None ≡ Some value = sym (map_none (says (map item_of items)) key (λ point. ap standing h)) ∙ e in cc)
+    by_said (Some entry) h = said_key items key entry h

@@ -18,8 +18,8 @@ pub record AreChildren (m : ItemMap) (at : LockKey) (names : List (List ℕ)) : 
   pub rising : (i j : ℕ) (x y : List ℕ) → i < j → slice_get names i ≡ Some x
       → slice_get names j ≡ Some y → name_cmp x y ≡ Less
 
--- The first child from a name on: there is none, or this one, and every other is before that name or
--- after this one.
+-- The first child from a name on: there is none, or this one, and every other is before that name
+-- or after this one.
 abbrev pub IsFirstChild : ItemMap → LockKey → List ℕ → Option (List ℕ) → Type 0
 IsFirstChild m at from None = (other : List ℕ) → IsChild m at other → name_cmp other from ≡ Less
 IsFirstChild m at from (Some name) = IsChild m at name × IsTrue (is_le (name_cmp from name))

@@ -35,8 +35,8 @@ pub record GoesThrough (m : ItemMap) (path : List (List ℕ)) (dirs : List LockK
       → node_at m (take i path) ≡ Some dir
   pub kind : (i : ℕ) (dir : LockKey) → slice_get dirs i ≡ Some dir → kind_of m dir ≡ Some Dir
 
--- Where a walk that goes through n directories ends: at the path's own node, or at the path where nothing
--- is there; or before that, at what is no directory.
+-- Where a walk that goes through n directories ends: at the path's own node, or at the path where
+-- nothing is there; or before that, at what is no directory.
 abbrev pub EndsAfter : ItemMap → List (List ℕ) → ℕ → WalkEnd → Type 0
 EndsAfter m path n (Node node kind) =
     (n ≡ length path) × (node_at m path ≡ Some node) × (kind_of m node ≡ Some kind)

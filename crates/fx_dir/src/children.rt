@@ -1,9 +1,10 @@
 //! The children of a directory.
-ghost use Rattle.std.specs.Prelude.{◌≡◌, ℕ, List, ◌++◌, ◌∷◌, [], Some, Contains, IfOk, IfSome, option_map};
+ghost use Rattle.std.specs.Prelude.{◌≡◌, ℕ, List, ◌++◌, ◌∷◌, [], Some, Contains, IfErr, IfOk, IfSome, option_map};
 ghost use Rattle.fx_plain.specs.Tree.{Tree, children};
 ghost use Rattle.fx_namespace.specs.Nodes.{Stands, node_at};
 ghost use Rattle.fx_namespace.specs.Trees.{Holdings, IsTreeOf};
 ghost use Rattle.fx_item.specs.Item.{ChildKey, item_of};
+ghost use Rattle.fx_item.specs.Look.{MayFail, map_of};
 ghost use Rattle.fx_dir.specs.Children.{AreChildren, IsFirstChild, child_name_at};
 
 use fx_item::{Item, Key, LockKey, Look, LookFault, Name};
@@ -12,11 +13,13 @@ use std::alloc::{AllocError, Global};
 
 /// The names of a node's children, in the order of their bytes. One look for each, and one more.
 pub fn names<L: Look>(alloc: Global, look: &L, at: LockKey) -> Result<Names, LookFault>
-    ensures items { IfOk result (λ names. AreChildren (L.items look.now) at names) }
-    // Where the items stand and make a tree, these are that tree's children at each path to the node.
+    ensures items { IfOk result (λ names. AreChildren (map_of (L.said look.now)) at names) }
+    // Where the items stand and make a tree, these are that tree's children at each path to the
+    // node.
     ensures tree { IfOk result (λ names. (path : List (List ℕ)) (h : Holdings) (t : Tree)
-        → Stands (L.items look.now) → IsTreeOf (L.items look.now) h t
-        → node_at (L.items look.now) path ≡ Some at → names ≡ children t path) }
+        → Stands (map_of (L.said look.now)) → IsTreeOf (map_of (L.said look.now)) h t
+        → node_at (map_of (L.said look.now)) path ≡ Some at → names ≡ children t path) }
+    ensures fault { IfErr result (MayFail (L.lacks look.now)) }
 {
     let mut names = Vec::new(alloc);
     let mut from = Name::new(Vec::new(alloc));
@@ -34,10 +37,11 @@ fn next_child<L: Look>(
     at: LockKey,
     from: Name,
 ) -> Result<Option<Name>, LookFault>
-    ensures first { IfOk result (λ found. IsFirstChild (L.items look.now) at from found) }
+    ensures first { IfOk result (λ found. IsFirstChild (map_of (L.said look.now)) at from found) }
     ensures listed { IfOk result
         (λ found. IfSome found
         (λ name. Contains (L.keys look.now) (ChildKey at.store at.id name))) }
+    ensures fault { IfErr result (MayFail (L.lacks look.now)) }
 {
     let key = Key::Child {
         store: at.store,
@@ -51,10 +55,10 @@ fn next_child<L: Look>(
 fn child_name(at: LockKey, item: Option<Item>) -> Option<Name>
     ensures { result ≡ child_name_at at (option_map item_of item) }
 {
-    let Some(item) = item else {
+    let Some(Item { key, .. }) = item else {
         return None;
     };
-    match item.key {
+    match key {
         Key::Child { store, id, name } if LockKey { store, id } == at => Some(name),
         _ => None,
     }

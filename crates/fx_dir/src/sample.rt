@@ -1,92 +1,98 @@
 //! A few items in memory, for the tests.
-ghost use Rattle.std.specs.Prelude.{◌≡◌, ◌≢◌, ◌++◌, ◌∷◌, [], Some, IfOk, IfSome, List, map, option_copied, option_map};
-ghost use Rattle.fx_item.specs.Item.{PlainItem, GoneValue, item_of, key_of, value_of};
-ghost use Rattle.fx_item.specs.Look.{FindsFrom, value_in};
+ghost use Rattle.std.specs.Prelude.{◌≡◌, ◌<◌, ◌^◌, ◌++◌, ◌∷◌, [], ℕ, IfErr, IfOk, IsTrue, List, map, option_copied, option_map};
+ghost use Rattle.fx_item.specs.Item.{PlainItem, item_of, key_of};
+ghost use Rattle.fx_item.specs.Look.{FindsFrom, FindsLive, MayFail};
+ghost use Rattle.fx_item.specs.Overlay.{Said, says};
+ghost use Rattle.fx_item.specs.Place.{Place, begins};
+ghost use Rattle.fx_dir.specs.Sample.{IsPlain};
 
-use fx_item::{Item, Key, Look, LookFault, Value};
-use std::alloc::Global;
+use fx_item::{Item, Key, Look, LookFault, Value, is_name};
+use std::alloc::{AllocError, Global};
 
-/// Items in memory, in any order. It does not tell tombstones.
+/// Items in memory, in any order. Of items that are none, and of tombstones, it does not tell.
 #[derive(Drop)]
 pub(crate) struct Sample {
     pub(crate) items: Vec<Item>,
 }
 
 impl Look for Sample {
-    ghost items = { λ s. value_in (map item_of s.items.items) };
+    ghost said = { λ s. says (map item_of s.items.items) };
 
     ghost keys = { λ s. map (λ x. key_of x.key) s.items.items };
 
-    fn get(&self, _alloc: Global, key: &Key) -> Result<Option<Value>, LookFault> {
-        for item in &self.items {
-            if item.key.cmp(key).is_eq() {
-                return told(item.value);
-            }
-        }
-        Ok(None)
-    }
+    ghost lacks = { λ s. 0 ∷ [] };
 
-    fn next_from(&self, alloc: Global, key: &Key) -> Result<Option<Item>, LookFault> {
+    fn next_from(&self, _alloc: Global, key: &Key) -> Result<Option<Item>, LookFault> {
         let mut best = None;
         for item in &self.items {
+            if !is_plain(item) {
+                return Err(LookFault::Need(0));
+            }
             best = earlier(key, best, item);
         }
         match best {
             None => Ok(None),
-            Some(item) => copied(alloc, item),
+            Some(item) => told(item),
         }
     }
 }
 
-fn told(value: Value) -> Result<Option<Value>, LookFault>
-    ensures found { IfOk result (λ found. found ≡ Some value) }
-    ensures alive { IfOk result (λ found. IfSome found (λ value. value_of value ≢ GoneValue)) }
+/// Whether this is an item that names a node, or tells its kind.
+fn is_plain(item: &Item) -> bool
+    ensures { IsTrue result → IsPlain (item_of item.now) }
 {
-    match value {
-        Value::Gone => Err(LookFault::Need(0)),
-        other => Ok(Some(other)),
+    match (&item.key, &item.value) {
+        (Key::Object { store, id }, Value::Dir) => is_node(*store, *id),
+        (Key::Object { store, id }, Value::File { length }) => {
+            is_node(*store, *id) && is_node(*length, 0)
+        }
+        (
+            Key::Child { store, id, name },
+            Value::Child {
+                store: to_store,
+                id: to_id,
+            },
+        ) => is_node(*store, *id) && is_node(*to_store, *to_id) && is_name(name.as_slice()),
+        _ => false,
     }
+}
+
+/// True: each pair of such numbers is a node.
+fn is_node(_store: u32, _id: u64) -> bool
+    ensures { IsTrue result → (_store < 2 ^ 32) × (_id < 2 ^ 64) }
+{
+    true
 }
 
 /// The earlier one of two items from a key on, or the first that is found.
 fn earlier<'a>(key: &Key, best: Option<&'a Item>, item: &'a Item) -> Option<&'a Item>
-    ensures { (xs : List PlainItem) → FindsFrom (value_in xs) (key_of key.now)
+    requires { IsPlain (item_of item.now) }
+    ensures { (xs : List PlainItem) → FindsFrom (says xs) (begins (key_of key.now))
         (option_map item_of (option_copied best.entry))
-        → FindsFrom (value_in (xs ++ item_of item.now ∷ [])) (key_of key.now)
+        → FindsFrom (says (xs ++ item_of item.now ∷ [])) (begins (key_of key.now))
         (option_map item_of (option_copied result)) }
 {
-    if key.cmp(&item.key).is_gt() {
+    if item.key.ends_by(&key.begins()) {
         return best;
     }
     let Some(found) = best else {
         return Some(item);
     };
-    if item.key.cmp(&found.key).is_lt() {
+    if item.key.ends_by(&found.key.begins()) {
         return Some(item);
     }
     Some(found)
 }
 
-fn copied(alloc: Global, item: &Item) -> Result<Option<Item>, LookFault>
-    ensures found { IfOk result (λ found. option_map item_of found ≡ Some (item_of item.now)) }
-    ensures alive { IfOk result (λ found. IfSome found (λ item. value_of item.value ≢ GoneValue)) }
+/// The item in memory of its own.
+fn told(item: &Item) -> Result<Option<Item>, LookFault>
+    ensures live { (said : Said) (from : Place) → FindsFrom said from (Some (item_of item.now))
+        → IfOk result (λ found. FindsLive said from (option_map item_of found)) }
+    ensures fault { IfErr result (MayFail (0 ∷ [])) }
 {
-    if let Value::Gone = item.value {
+    if item.value.is_gone() {
         return Err(LookFault::Need(0));
     }
-    let key = match &item.key {
-        Key::Object { store, id } => Key::Object {
-            store: *store,
-            id: *id,
-        },
-        Key::Child { store, id, name } => Key::Child {
-            store: *store,
-            id: *id,
-            name: name.clone()?,
-        },
-    };
-    Ok(Some(Item {
-        key,
-        value: item.value,
-    }))
+    let copy = item.clone()?;
+    Ok(Some(copy))
 }

@@ -1,9 +1,10 @@
 //! Walks along paths.
-ghost use Rattle.std.specs.Prelude.{◌≡◌, nat_lt, if◌then◌else◌, length, IfOk, option_map};
+ghost use Rattle.std.specs.Prelude.{◌≡◌, nat_lt, if◌then◌else◌, length, IfErr, IfOk, option_map};
 ghost use Rattle.fx_plain.specs.Tree.{Tree};
 ghost use Rattle.fx_namespace.specs.Nodes.{kind_of, led_to, told_kind};
 ghost use Rattle.fx_namespace.specs.Trees.{Holdings, IsTreeOf};
 ghost use Rattle.fx_item.specs.Item.{value_of};
+ghost use Rattle.fx_item.specs.Look.{MayFail, map_of};
 ghost use Rattle.fx_dir.specs.Walk.{child_with_kind, EndsAfter, EndsInTree, GoesThrough};
 
 use fx_item::{Key, KeyList, LockKey, Look, LookFault, Name, Value};
@@ -36,12 +37,14 @@ pub enum WalkEnd {
 /// Walks along a path from the root on. Two looks for each name.
 pub fn walk_path<L: Look>(alloc: Global, look: &L, path: &Path) -> Result<Walk, LookFault>
     // It went through all directories on the way, up to where it ended.
-    ensures through { IfOk result (λ walk. GoesThrough (L.items look.now) path.now walk.dirs) }
+    ensures through { IfOk result
+        (λ walk. GoesThrough (map_of (L.said look.now)) path.now walk.dirs) }
     ensures end { IfOk result
-        (λ walk. EndsAfter (L.items look.now) path.now (length walk.dirs) walk.end) }
+        (λ walk. EndsAfter (map_of (L.said look.now)) path.now (length walk.dirs) walk.end) }
     // The walk of the tree that the items make meets the same.
-    ensures tree { IfOk result (λ walk. (h : Holdings) (t : Tree) → IsTreeOf (L.items look.now) h t
-        → EndsInTree t path.now walk.end) }
+    ensures tree { IfOk result (λ walk. (h : Holdings) (t : Tree)
+        → IsTreeOf (map_of (L.said look.now)) h t → EndsInTree t path.now walk.end) }
+    ensures fault { IfErr result (MayFail (L.lacks look.now)) }
 {
     let names = path.as_slice();
     let mut dirs = Vec::new(alloc);
@@ -89,7 +92,9 @@ fn child<L: Look>(
     at: LockKey,
     name: &Name,
 ) -> Result<Option<(LockKey, Kind)>, LookFault>
-    ensures { IfOk result (λ found. found ≡ child_with_kind (L.items look.now) at name.now) }
+    ensures found { IfOk result
+        (λ found. found ≡ child_with_kind (map_of (L.said look.now)) at name.now) }
+    ensures fault { IfErr result (MayFail (L.lacks look.now)) }
 {
     let key = Key::Child {
         store: at.store,
@@ -117,7 +122,8 @@ fn led_to(value: Option<Value>) -> Option<LockKey>
 
 /// The kind of a node, where it is there.
 fn kind_of<L: Look>(alloc: Global, look: &L, at: LockKey) -> Result<Option<Kind>, LookFault>
-    ensures { IfOk result (λ found. found ≡ kind_of (L.items look.now) at) }
+    ensures found { IfOk result (λ found. found ≡ kind_of (map_of (L.said look.now)) at) }
+    ensures fault { IfErr result (MayFail (L.lacks look.now)) }
 {
     if at == ROOT {
         return Ok(Some(Kind::Dir));

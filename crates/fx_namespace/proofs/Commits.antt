@@ -8,11 +8,11 @@ use Rattle.std.specs.Cmp.{nat_cmp_is, nat_cmp_total, tied_itself}
 use Rattle.std.specs.Cmp.Lexicographic.{slice_cmp}
 use Rattle.std.specs.Ordering.{is_lt, nat_cmp, ordering_then}
 use Rattle.std.specs.declared.cmp.Ordering.TheVariants.{Less, Equal}
-use Rattle.fx_item.specs.Item.{PlainKey, ObjectKey, ChildKey, PlainValue, DirectoryValue, FileValue, ChildValue, GoneValue, AttributeValue, WaitingValue, ExtentValue, TakenValue, PlainItem, IsItem, Suits}
+use Rattle.fx_item.specs.Item.{PlainKey, ObjectKey, ChildKey, PlainValue, DirectoryValue, FileValue, ChildValue, GoneValue, AttributeValue, WaitingValue, ExtentValue, TakenValue, PlainItem, IsNameItem, Suits}
 use Rattle.fx_item.specs.Look.{ItemMap, value_of_entry, after, value_id, value_store, next_id, next_store}
 use Rattle.fx_item.specs.Name.{is_name}
 use Rattle.fx_item.specs.Order.{is_ascending, key_cmp}
-use Rattle.fx_item.specs.Overlay.{Entry, ValueEntry, AtKey, entry_of}
+use Rattle.fx_item.specs.Overlay.{Entry, ValueEntry, AtKey, entry_in}
 use Rattle.fx_plain.specs.Node.{Attributes, Contents, Node, empty_dir}
 use Rattle.fx_plain.specs.Node as plain
 use Rattle.fx_plain.specs.Tree.{Tree}
@@ -113,7 +113,7 @@ new_kind : (kind : Kind) → told_kind (Some (new_value kind)) ≡ Some kind
 new_kind Dir = refl
 new_kind File = refl
 
-new_said : (kind : Kind) (store id : ℕ) → entry_of (ObjectKey store id) (new_value kind) (AtKey (ObjectKey store id)) ≡ Some (ValueEntry (new_value kind))
+new_said : (kind : Kind) (store id : ℕ) → entry_in (ObjectKey store id) (new_value kind) (AtKey (ObjectKey store id)) ≡ Some (ValueEntry (new_value kind))
 new_said Dir store id = refl
 new_said File store id = refl
 
@@ -130,7 +130,7 @@ all_two P x y h k = All-cons P x (y ∷ []) h (all_one P y k)
 pub new_gains : (m : ItemMap) (parent : NodeId) (name : List ℕ) (node : NodeId) (kind : Kind) → GainsNode m (after m (new_items parent name node kind)) parent name node (new_value kind)
 new_gains m parent name node kind = record {
   object = let key : PlainKey = ObjectKey node.store node.id in
-      ap (λ b. word m key (cond b (Some (entry_of key (new_value kind) (AtKey key))) None)) (object_itself node.store node.id) ∙ ap value_of_entry (new_said kind node.store node.id);
+      ap (λ b. word m key (cond b (Some (entry_in key (new_value kind) (AtKey key))) None)) (object_itself node.store node.id) ∙ ap value_of_entry (new_said kind node.store node.id);
   entry = let key : PlainKey = ChildKey parent.store parent.id name in
       ap (λ b. word m key (cond b (Some (Some (ValueEntry (ChildValue node.store node.id)))) None)) (child_itself parent.store parent.id name);
   others = λ key a b. after_other m (new_items parent name node kind) key
@@ -186,10 +186,10 @@ new_value_suits : (kind : Kind) (store id : ℕ) → Suits (ObjectKey store id) 
 new_value_suits Dir store id = tt
 new_value_suits File store id = omega arith
 
-pub new_are_items : (parent : NodeId) (name : List ℕ) (node : NodeId) (kind : Kind) → parent.id < 2 ^ 64 → parent.store < 2 ^ 32 → node.id < 2 ^ 64 → node.store < 2 ^ 32 → IsTrue (is_name name) → All IsItem (new_items parent name node kind)
-new_are_items parent name node kind i k j l named = all_two IsItem _ _
-    (record { key = (k, i, named); value = (l, j) })
-    (record { key = (l, j); value = new_value_suits kind node.store node.id })
+pub new_are_items : (parent : NodeId) (name : List ℕ) (node : NodeId) (kind : Kind) → parent.id < 2 ^ 64 → parent.store < 2 ^ 32 → node.id < 2 ^ 64 → node.store < 2 ^ 32 → IsTrue (is_name name) → All IsNameItem (new_items parent name node kind)
+new_are_items parent name node kind i k j l named = all_two IsNameItem _ _
+    (record { item = record { key = (k, i, named); value = (l, j) }; kind = refl })
+    (record { item = record { key = (l, j); value = new_value_suits kind node.store node.id }; kind = refl })
 
 module _ (parent : NodeId) (name : List ℕ) (node : NodeId) (kind : Kind) (id store : ℕ) (low_id : parent.id < id) (low_store : parent.store < store) where
   -- the store and the id of the next node
@@ -235,8 +235,8 @@ written_numbers node id store i k = (omega arith, omega arith)
 pub written_ascends : (node : NodeId) → IsTrue (is_ascending (written_items node))
 written_ascends node = refl
 
-pub written_are_items : (node : NodeId) → node.id < 2 ^ 64 → node.store < 2 ^ 32 → All IsItem (written_items node)
-written_are_items node i k = all_one IsItem _ (record { key = (k, i); value = omega arith })
+pub written_are_items : (node : NodeId) → node.id < 2 ^ 64 → node.store < 2 ^ 32 → All IsNameItem (written_items node)
+written_are_items node i k = all_one IsNameItem _ (record { item = record { key = (k, i); value = omega arith }; kind = refl })
 
 -- ---- a new node stands
 

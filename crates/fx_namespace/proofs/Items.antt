@@ -1,13 +1,13 @@
 -- What stands under a key after a list of items, and which numbers are used then.
 use Rattle.std.proofs.Common.{◌≡◌, ◌≢◌, ◌⊎◌, inl, inr, ℕ, ◌+◌, ◌<◌, ◌≤◌, Bool, true, false, cond, List, [], ◌∷◌, ◌++◌, refl, sym, ap, ◌∙◌, max, arith}
-use Rattle.std.specs.Prelude.{Option, Some, None, nat_eq, ◌==◌, ◌&&◌, All}
+use Rattle.std.specs.Prelude.{Option, Some, None, nat_eq, ◌==◌, ◌&&◌, All, IsTrue}
 use Rattle.std.specs.List.{fold}
 use Rattle.std.specs.Cmp.Lexicographic.{pointwise, same_text}
 use Rattle.std.proofs.lemmas.Bool.{eqb-true, eq-eqb, and_parts, false_from_ne_true}
 use Rattle.std.proofs.lemmas.List.Elements.{All-head, All-tail}
 use Rattle.std.proofs.lemmas.List.Sums.{fold-append}
-use Rattle.fx_item.specs.Item.{PlainKey, ObjectKey, AttributeKey, ExtentKey, ChildKey, GraveKey, AllocationKey, PlainValue, GoneValue, ExtentValue, PlainItem}
-use Rattle.fx_item.specs.Overlay.{Entry, ValueEntry, BlockEntry, AtKey, same_key, covers, entry_of, says}
+use Rattle.fx_item.specs.Item.{PlainKey, ObjectKey, AttributeKey, ExtentKey, ChildKey, GraveKey, AllocationKey, PlainValue, GoneValue, ExtentValue, PlainItem, is_name_key}
+use Rattle.fx_item.specs.Overlay.{Entry, ValueEntry, BlockEntry, AtKey, same_key, covers, entry_in, says}
 use Rattle.fx_item.specs.Look.{ItemMap, value_of_entry, after, after_all, no_items, key_id, key_store, value_id, value_store, next_id, next_store, next_id_after, next_store_after}
 use Rattle.fx_namespace.specs.Commits.{IsBelow}
 
@@ -43,7 +43,12 @@ object_itself s i = node_itself s i
 pub child_itself : (s i : ℕ) (x : List ℕ) → same_key (ChildKey s i x) (ChildKey s i x) ≡ true
 child_itself s i x = ap (λ b. b && pointwise nat_eq x x) (node_itself s i) ∙ name_itself x
 
-covers_key : (a key : PlainKey) → covers a (AtKey key) ≡ same_key a key
+pub covers_itself : (key : PlainKey) → IsTrue (is_name_key key) → covers key (AtKey key) ≡ true
+covers_itself (ObjectKey s i) n = object_itself s i
+covers_itself (ChildKey s i x) n = child_itself s i x
+covers_itself _ n = absurd (cc n)
+
+pub covers_key : (a key : PlainKey) → covers a (AtKey key) ≡ same_key a key
 covers_key (ObjectKey s i) key = refl
 covers_key (AttributeKey s i x) key = refl
 covers_key (ExtentKey s i start stop) key = refl
@@ -63,14 +68,14 @@ IsOther key x = x.key ≢ key
 says_none : (items : List PlainItem) (key : PlainKey) → All (IsOther key) items → says items (AtKey key) ≡ None
 says_none [] key h = refl
 says_none (x ∷ items) key h =
-    ap (λ b. cond b (Some (entry_of x.key x.value (AtKey key))) (says items (AtKey key))) (not_covers x.key key (All-head (IsOther key) x items h))
+    ap (λ b. cond b (Some (entry_in x.key x.value (AtKey key))) (says items (AtKey key))) (not_covers x.key key (All-head (IsOther key) x items h))
     ∙ says_none items key (All-tail (IsOther key) x items h)
 
 -- under a key of which the list says nothing stands what stood there
 pub after_other : (m : ItemMap) (items : List PlainItem) (key : PlainKey) → All (IsOther key) items → after m items key ≡ m key
 after_other m items key h = ap (λ o. elim o [ Some entry ↦ value_of_entry entry | None ↦ m key ]) (says_none items key h)
 
-entry_value : (a : PlainKey) (v w : PlainValue) (key : PlainKey) → entry_of a v (AtKey key) ≡ Some (ValueEntry w) → v ≡ w
+entry_value : (a : PlainKey) (v w : PlainValue) (key : PlainKey) → entry_in a v (AtKey key) ≡ Some (ValueEntry w) → v ≡ w
 entry_value (ExtentKey s i start stop) (ExtentValue block sums) w key e = cc
 entry_value a GoneValue w key e = absurd (cc)
 entry_value a v w key e = cc
@@ -83,7 +88,7 @@ Says items key value = says items (AtKey key) ≡ Some (Some (ValueEntry value))
 says_split : (x : PlainItem) (items : List PlainItem) (key : PlainKey) (value : PlainValue) → Says (x ∷ items) key value → ((x.key ≡ key) × (x.value ≡ value)) ⊎ Says items key value
 says_split x items key value = by_test (covers x.key (AtKey key)) refl
   where
-    by_test : (b : Bool) → covers x.key (AtKey key) ≡ b → cond b (Some (entry_of x.key x.value (AtKey key))) (says items (AtKey key)) ≡ Some (Some (ValueEntry value))
+    by_test : (b : Bool) → covers x.key (AtKey key) ≡ b → cond b (Some (entry_in x.key x.value (AtKey key))) (says items (AtKey key)) ≡ Some (Some (ValueEntry value))
         → ((x.key ≡ key) × (x.value ≡ value)) ⊎ Says items key value
     by_test true c e = inl (same_key_is x.key key (sym (covers_key x.key key) ∙ c), entry_value x.key x.value value key (cc e))
     by_test false c e = inr e

@@ -1,10 +1,10 @@
 -- The tree of items: it is one, and a tree.
-use Rattle.std.proofs.Common.{◌≡◌, ◌≢◌, ◌⊎◌, inl, inr, ℕ, ◌++◌, List, [], ◌∷◌, refl, sym, ap, ◌∙◌, cond}
+use Rattle.std.proofs.Common.{◌≡◌, ◌≢◌, ◌⊎◌, inl, inr, ℕ, ◌++◌, List, [], ◌∷◌, sym, ap, ◌∙◌, cond}
 use Rattle.std.specs.Prelude.{Some, option_and_then, option_map}
-use Rattle.std.specs.FinMap.{get, insert, empty, get-insert, same_map}
+use Rattle.std.specs.FinMap.{empty, same_map}
 use Rattle.std.proofs.lemmas.Option.{option_and_then_some}
-use Rattle.fx_plain.specs.Node.{Node, Dir, empty_dir}
-use Rattle.fx_plain.specs.Tree.{IsTree, Tree, path_cmp}
+use Rattle.fx_plain.specs.Node.{Dir, empty_dir}
+use Rattle.fx_plain.specs.Tree.{IsTree, Tree}
 use Rattle.fx_plain.proofs.Paths.{paths_total, paths_exact}
 use Rattle.fx_item.specs.Look.{ItemMap}
 use Rattle.fx_namespace.specs.Nodes.{NodeId, root_node, child, node_at, object_kind, Stands}

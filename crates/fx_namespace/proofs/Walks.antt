@@ -1,7 +1,7 @@
 -- Where paths lead in items, and that one path at most leads to a node where the items stand.
-use Rattle.std.proofs.Common.{◌≡◌, ◌≢◌, ◌⊎◌, inl, inr, ℕ, ◌++◌, List, [], ◌∷◌, refl, sym, ap, subst, ◌∙◌, Bool, true, false, append_assoc, arith}
-use Rattle.std.specs.Prelude.{Option, Some, None, option_and_then, nat_eq, ◌==◌}
-use Rattle.std.proofs.lemmas.Bool.{eqb-true, eqb-false, false_from_ne_true, and_parts}
+use Rattle.std.proofs.Common.{◌≡◌, ◌≢◌, ◌⊎◌, inl, inr, ℕ, ◌++◌, List, [], ◌∷◌, refl, sym, ap, subst, ◌∙◌, true, false, append_assoc, arith}
+use Rattle.std.specs.Prelude.{Option, Some, None, option_and_then, ◌==◌}
+use Rattle.std.proofs.lemmas.Bool.{eqb-true, false_from_ne_true, and_parts}
 use Rattle.std.proofs.lemmas.List.{append-nil}
 use Rattle.std.proofs.lemmas.Option.{option_and_then_some}
 use Rattle.fx_base.proofs.Numbers.{same_or_not}

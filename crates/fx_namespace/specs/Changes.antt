@@ -27,8 +27,8 @@ pub record SameBut (node : NodeId) (g h : Holdings) : Type 0 where
   pub contents : (other : NodeId) → other ≢ node → h.contents other ≡ g.contents other
   pub attributes : (other : NodeId) → h.attributes other ≡ g.attributes other
 
--- The place for a new node: a directory that a path leads to, with the name free, and a fresh node which
--- may be its child, of that kind, a directory in the root, not too deep.
+-- The place for a new node: a directory that a path leads to, with the name free, and a fresh node
+-- which may be its child, of that kind, a directory in the root, not too deep.
 pub record IsPlaceFor (m : ItemMap) (above : List (List ℕ)) (parent : NodeId) (name : List ℕ)
     (node : NodeId) (kind : Kind) : Type 0 where
   pub way : node_at m above ≡ Some parent

@@ -35,8 +35,8 @@ pub record IsBelow (m : ItemMap) (id store : ℕ) : Type 0 where
   pub value : (key : PlainKey) (value : PlainValue) → m key ≡ Some value
       → (value_id value < id) × (value_store value < store)
 
--- The node that comes next in a directory: in the root, which has directories alone, node 0 of the next
--- store, and elsewhere the next id in the directory's store.
+-- The node that comes next in a directory: in the root, which has directories alone, node 0 of the
+-- next store, and elsewhere the next id in the directory's store.
 abbrev pub IsNextNode : NodeId → NodeId → Kind → (id store : ℕ) → Type 0
 IsNextNode parent node kind id store =
     ((parent ≡ root_node) × (kind ≡ Dir) × (node ≡ record { store = store; id = 0 }))

@@ -1,7 +1,7 @@
 -- Where items do not make a tree of nodes.
 use Rattle.std.specs.Prelude.{◌≡◌, ◌≢◌, ◌⊎◌, ℕ, ◌<◌, ◌≤◌, List, [], ◌∷◌, ◌++◌, length, Some, None, IsTrue}
 use Rattle.std.specs.Ordering.{is_le}
-use Rattle.fx_item.specs.Item.{PlainKey, PlainValue, GoneValue, ObjectKey, ChildKey, IsItem}
+use Rattle.fx_item.specs.Item.{PlainKey, PlainValue, GoneValue, ObjectKey, ChildKey, IsNameItem}
 use Rattle.fx_item.specs.Look.{ItemMap}
 use Rattle.fx_item.specs.LockKey.{key_cmp}
 use Rattle.fx_plain.specs.declared.kind.Kind.TheVariants.{Dir}
@@ -11,7 +11,7 @@ use Rattle.fx_namespace.specs.Nodes.{NodeId, root_node, child, node_at, object_k
 -- Each key stands with a value that suits it, and no tombstone.
 pub record AreLiveItems (m : ItemMap) : Type 0 where
   pub item : (key : PlainKey) (value : PlainValue) → m key ≡ Some value
-      → IsItem (record { key = key; value = value })
+      → IsNameItem (record { key = key; value = value })
   pub alive : (key : PlainKey) → m key ≢ Some GoneValue
 
 -- A child of the root is node 0 of a store, from store 1 on, and any other child a node of its own

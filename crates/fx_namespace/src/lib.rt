@@ -5,7 +5,7 @@
 
 ghost use Rattle.std.specs.Prelude.{◌≡◌, ◌++◌, ◌∷◌, ◌+◌, ◌<◌, ◌≤◌, ◌^◌, [], ℕ, All, IsTrue, List, Option, None, Some};
 ghost use Rattle.std.specs.FinMap as map;
-ghost use Rattle.fx_item.specs.Item.{ChildKey, FileValue, IsItem, ObjectKey, PlainItem, PlainKey, PlainValue};
+ghost use Rattle.fx_item.specs.Item.{ChildKey, FileValue, IsNameItem, ObjectKey, PlainItem, PlainKey, PlainValue};
 ghost use Rattle.fx_item.specs.Name.{is_name};
 ghost use Rattle.fx_item.specs.Order.{is_ascending};
 ghost use Rattle.fx_plain.specs.Node.{Attributes, Node};
@@ -18,8 +18,8 @@ ghost use Rattle.fx_namespace.specs.Trees.{Holdings, IsTreeOf, node_of};
 ghost use Rattle.fx_namespace.specs.Changes.{GainsNode, IsPlaceFor, Resizes, SameBut};
 ghost use Rattle.fx_namespace.specs.Commits.{IsBelow, IsFileAt, IsFreePlace, IsNextNode, LeadsAlso, id_then, new_items, store_then, written_items};
 
-/// Items make one tree of paths, and where they stand it is a tree: whatever a path goes through is a
-/// directory. Then one path at most leads to a node.
+/// Items make one tree of paths, and where they stand it is a tree: whatever a path goes through is
+/// a directory. Then one path at most leads to a node.
 pub fn tree_laws()
     ensures one { (m : ItemMap) (h : Holdings) (t u : Tree)
         → IsTreeOf m h t → IsTreeOf m h u → t ≡ u }
@@ -54,8 +54,8 @@ pub fn gain_laws()
         → IsTreeOf n h (map.insert t (above ++ name ∷ []) (node_of h node kind)) }
 {}
 
-/// Where a file's Object tells another length, the items stand again and make the same tree. Where the
-/// file then holds other contents, the tree is the old one with these at the file's path.
+/// Where a file's Object tells another length, the items stand again and make the same tree. Where
+/// the file then holds other contents, the tree is the old one with these at the file's path.
 pub fn resize_laws()
     ensures stands { (m n : ItemMap) (node : NodeId) (old new : ℕ) → Stands m
         → Resizes m n node old new → Stands n }
@@ -68,9 +68,9 @@ pub fn resize_laws()
         → IsTreeOf n h (map.insert t path (node_of h node Kind.File)) }
 {}
 
-/// What a tree of items tells of them: where something lies, the path leads to a node; where a directory
-/// lies, the node is one; where a file lies, the node has a file's Object; where nothing lies below a
-/// node, its name is free. Only the empty path leads to the root.
+/// What a tree of items tells of them: where something lies, the path leads to a node; where a
+/// directory lies, the node is one; where a file lies, the node has a file's Object; where nothing
+/// lies below a node, its name is free. Only the empty path leads to the root.
 pub fn told_laws()
     ensures there { (m : ItemMap) (h : Holdings) (t : Tree) (path : List (List ℕ)) (x : Node)
         → IsTreeOf m h t → map.get t path ≡ Some x
@@ -92,8 +92,9 @@ pub fn told_laws()
         → node_at m path ≡ Some node → node ≡ root_node → path ≡ [] }
 {}
 
-/// The two items of a new node, with the next number, in a directory where nothing lies under its name:
-/// after them the items stand, the tree has the node there, and one path more leads to a node.
+/// The two items of a new node, with the next number, in a directory where nothing lies under its
+/// name: after them the items stand, the tree has the node there, and one path more leads to a
+/// node.
 pub fn new_node_laws()
     ensures stands { (m : ItemMap) (h : Holdings) (t : Tree) (above : List (List ℕ))
         (parent : NodeId) (name : List ℕ) (node : NodeId) (kind : Kind) (id store : ℕ)
@@ -122,11 +123,11 @@ pub fn new_node_laws()
         → IsTrue (is_ascending (new_items parent name node kind)) }
     ensures items { (parent : NodeId) (name : List ℕ) (node : NodeId) (kind : Kind)
         → parent.id < 2 ^ 64 → parent.store < 2 ^ 32 → node.id < 2 ^ 64 → node.store < 2 ^ 32
-        → IsTrue (is_name name) → All IsItem (new_items parent name node kind) }
+        → IsTrue (is_name name) → All IsNameItem (new_items parent name node kind) }
 {}
 
-/// The item of a write, where a file lies: after it the items stand and make the same tree, and each path
-/// leads where it led before.
+/// The item of a write, where a file lies: after it the items stand and make the same tree, and
+/// each path leads where it led before.
 pub fn written_laws()
     ensures stands { (m : ItemMap) (h : Holdings) (t : Tree) (path : List (List ℕ)) (node : NodeId)
         → Stands m → IsTreeOf m h t → IsFileAt m t path node
@@ -138,11 +139,11 @@ pub fn written_laws()
         → (other : List (List ℕ)) → node_at (after m (written_items node)) other ≡ node_at m other }
     ensures ascending { (node : NodeId) → IsTrue (is_ascending (written_items node)) }
     ensures items { (node : NodeId) → node.id < 2 ^ 64 → node.store < 2 ^ 32
-        → All IsItem (written_items node) }
+        → All IsNameItem (written_items node) }
 {}
 
-/// The numbers that items use: below the next ones, which never fall, and which rise by one for a new
-/// node.
+/// The numbers that items use: below the next ones, which never fall, and which rise by one for a
+/// new node.
 pub fn number_laws()
     ensures node { (m : ItemMap) (id store : ℕ) (path : List (List ℕ)) (node : NodeId)
         → IsBelow m id store → node_at m path ≡ Some node → (node.id < id) × (node.store < store) }

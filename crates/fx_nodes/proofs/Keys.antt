@@ -1,8 +1,7 @@
 -- The order of keys: keys that compare equal are equal, and the test of `covers` is that of the order.
-use Rattle.std.proofs.Common.{◌≡◌, List, [], ◌∷◌, map, refl, sym, ◌∙◌, Bool, true, false}
-use Rattle.std.specs.Prelude.{nat_eq, IsTrue, ◌&&◌, ◌==◌}
+use Rattle.std.proofs.Common.{◌≡◌, List, [], ◌∷◌, map, refl, sym, ap, ◌∙◌, Bool, true, false}
+use Rattle.std.specs.Prelude.{IsTrue}
 use Rattle.std.specs.Cmp.{eq_by_cmp_equiv}
-use Rattle.std.specs.Cmp.Lexicographic.{pointwise, texts_ties}
 use Rattle.std.specs.Ordering.{is_eq, is_lt}
 use Rattle.std.specs.declared.cmp.Ordering.TheVariants.{Less}
 use Rattle.std.specs.List.{AllByRecursion}
@@ -11,11 +10,10 @@ use Rattle.std.proofs.lemmas.Bool.{and_parts}
 use Rattle.fx_base.proofs.Orderings as orderings
 use Rattle.fx_base.proofs.TotalOrders.{apart_no_tie, tie_same}
 use Rattle.fx_item.proofs.KeyOrder.{keys_exact, keys_total}
-use Rattle.fx_item.specs.Item.{PlainKey, ObjectKey, AttributeKey, ExtentKey, ChildKey, GraveKey, AllocationKey, PlainItem, key_of}
-use Rattle.fx_item.specs.Order.{key_cmp, rank, is_ascending, may_follow}
+use Rattle.fx_item.specs.Item.{PlainKey, PlainItem, is_name_key}
+use Rattle.fx_item.specs.Order.{key_cmp, is_ascending, may_follow}
 use Rattle.fx_item.specs.Overlay.{covers, AtKey}
-use Rattle.fx_item.specs.declared.item.Key.{Key}
-use Rattle.fx_item.specs.declared.item.Key.TheVariants as keys
+use Rattle.fx_namespace.proofs.Items.{covers_itself, not_covers}
 
 -- the test that two keys compare equal
 abbrev pub at : PlainKey → PlainKey → Bool
@@ -33,32 +31,13 @@ at_back j k = (eq_by_cmp_equiv keys_total).symm j k
 pub at_apart : (j k : PlainKey) → (j ≡ k → ⊥) → at j k ≡ false
 at_apart = apart_no_tie keys_total keys_exact
 
--- the test by numbers is that of the order
-ranked : (j k : PlainKey) → pointwise nat_eq (rank j) (rank k) ≡ at j k
-ranked j k = texts_ties (rank j) (rank k)
-
-two : (a b : Bool) → (a && b) ≡ (a && (b && true))
-two true true = refl
-two true false = refl
-two false b = refl
-
-three : (a b c : Bool) → ((a && b) && c) ≡ (a && (b && c))
-three true b c = refl
-three false b c = refl
-
-pub covers_at : (k : Key) (q : PlainKey) → covers (key_of k) (AtKey q) ≡ at (key_of k) q
-covers_at (keys.Object s i) (ObjectKey t j) = two (s == t) (i == j) ∙ ranked (ObjectKey s i) (ObjectKey t j)
-covers_at (keys.Object s i) (AttributeKey t j name) = sym (at_apart (ObjectKey s i) (AttributeKey t j name) (λ e. cc))
-covers_at (keys.Object s i) (ExtentKey t j a b) = sym (at_apart (ObjectKey s i) (ExtentKey t j a b) (λ e. cc))
-covers_at (keys.Object s i) (ChildKey t j name) = sym (at_apart (ObjectKey s i) (ChildKey t j name) (λ e. cc))
-covers_at (keys.Object s i) (GraveKey t j) = sym (at_apart (ObjectKey s i) (GraveKey t j) (λ e. cc))
-covers_at (keys.Object s i) (AllocationKey a b) = sym (at_apart (ObjectKey s i) (AllocationKey a b) (λ e. cc))
-covers_at (keys.Child s i name) (ObjectKey t j) = sym (at_apart (ChildKey s i name) (ObjectKey t j) (λ e. cc))
-covers_at (keys.Child s i name) (AttributeKey t j other) = sym (at_apart (ChildKey s i name) (AttributeKey t j other) (λ e. cc))
-covers_at (keys.Child s i name) (ExtentKey t j a b) = sym (at_apart (ChildKey s i name) (ExtentKey t j a b) (λ e. cc))
-covers_at (keys.Child s i name) (ChildKey t j other) = three (s == t) (i == j) (pointwise nat_eq name other) ∙ ranked (ChildKey s i name) (ChildKey t j other)
-covers_at (keys.Child s i name) (GraveKey t j) = sym (at_apart (ChildKey s i name) (GraveKey t j) (λ e. cc))
-covers_at (keys.Child s i name) (AllocationKey a b) = sym (at_apart (ChildKey s i name) (AllocationKey a b) (λ e. cc))
+-- the test of `covers` is that of the order
+pub covers_at : (k q : PlainKey) → IsTrue (is_name_key k) → covers k (AtKey q) ≡ at k q
+covers_at k q n = by_test (at k q) refl
+  where
+    by_test : (b : Bool) → at k q ≡ b → covers k (AtKey q) ≡ b
+    by_test true e = ap (λ z. covers k (AtKey z)) (sym (same_at k q e)) ∙ covers_itself k n
+    by_test false e = not_covers k q (λ same. let f : true ≡ false = sym (at_itself k) ∙ ap (at k) same ∙ e in cc)
 
 -- ---- lists in order
 

@@ -10,7 +10,7 @@ use Rattle.std.specs.declared.cmp.Ordering.{Ordering}
 use Rattle.std.specs.declared.cmp.Ordering.TheVariants.{Less, Equal, Greater}
 use Rattle.std.proofs.lemmas.List.{append-nil, get_or-drop, get_or-take, length-take, length-drop, map-append, take-append-drop}
 use Rattle.std.proofs.lemmas.List.Elements.{All-contains, filter-append}
-use Rattle.fx_item.specs.Item.{PlainKey, ObjectKey, ChildKey, PlainValue, GoneValue, ChildValue, PlainItem, IsItem}
+use Rattle.fx_item.specs.Item.{PlainKey, ObjectKey, ChildKey, PlainValue, GoneValue, ChildValue, PlainItem, IsNameItem}
 use Rattle.fx_item.specs.Look.{ItemMap, value_in}
 use Rattle.fx_item.specs.LockKey.{key_cmp as node_cmp}
 use Rattle.fx_item.specs.Order.{key_cmp}
@@ -52,7 +52,7 @@ stands (y ∷ xs) x s (inr i) = ap (λ b. cond b (Some y.value) (value_in xs x.k
 
 pub are_items : (items : List PlainItem) → AreKept items → AreLiveItems (value_in items)
 are_items items k = record {
-  item = λ key value e. All-contains IsItem items (record { key = key; value = value }) k.each (contains_from items (record { key = key; value = value }) (found items key value e));
+  item = λ key value e. All-contains IsNameItem items (record { key = key; value = value }) k.each (contains_from items (record { key = key; value = value }) (found items key value e));
   alive = λ key e. All-contains (λ x. x.value ≢ GoneValue) items (record { key = key; value = GoneValue }) k.alive (contains_from items (record { key = key; value = GoneValue }) (found items key GoneValue e)) refl;
 }
 

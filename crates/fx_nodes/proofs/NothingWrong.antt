@@ -2,7 +2,7 @@
 use Rattle.std.proofs.Common.{◌≡◌, ◌≢◌, ◌⊎◌, inl, inr, ℕ, ◌<◌, ◌≤◌, List, [], ◌∷◌, ◌++◌, length, length-append, refl, sym, ap, subst, ◌∙◌, Bool, true, false, zero, suc, arith}
 use Rattle.std.specs.Prelude.{Option, Some, None, Contains}
 use Rattle.std.proofs.lemmas.Bool.Decides.{leb_tells}
-use Rattle.fx_item.specs.Item.{PlainKey, ObjectKey, AttributeKey, ExtentKey, ChildKey, GraveKey, AllocationKey, PlainValue, GoneValue, ChildValue, IsItem}
+use Rattle.fx_item.specs.Item.{PlainKey, ObjectKey, AttributeKey, ExtentKey, ChildKey, GraveKey, AllocationKey, PlainValue, GoneValue, ChildValue, IsNameItem}
 use Rattle.fx_item.specs.Look.{ItemMap}
 use Rattle.fx_plain.specs.declared.kind.Kind.{Kind}
 use Rattle.fx_plain.specs.declared.kind.Kind.TheVariants.{Dir, File}
@@ -44,10 +44,10 @@ module _ (m : ItemMap) (s : Stands m) where
 module _ (m : ItemMap) (are : AreLiveItems m) (keys : List PlainKey) (listed : (key : PlainKey) (value : PlainValue) → m key ≡ Some value → Contains keys key)
     (right : (node : NodeId) → IsWrongAt m node → ⊥) where
   -- what stands under a child's key leads to a node
-  leads : (s i : ℕ) (x : List ℕ) (v : PlainValue) → IsItem (record { key = ChildKey s i x; value = v }) → (v ≡ GoneValue → ⊥) → (n : NodeId) × (v ≡ ChildValue n.store n.id)
+  leads : (s i : ℕ) (x : List ℕ) (v : PlainValue) → IsNameItem (record { key = ChildKey s i x; value = v }) → (v ≡ GoneValue → ⊥) → (n : NodeId) × (v ≡ ChildValue n.store n.id)
   leads s i x (ChildValue t j) h ne = (record { store = t; id = j }, refl)
   leads s i x GoneValue h ne = absurd (ne refl)
-  leads s i x _ h ne = absurd h.value
+  leads s i x _ h ne = absurd h.item.value
 
   leads_to : (s i : ℕ) (x : List ℕ) (v : PlainValue) → m (ChildKey s i x) ≡ Some v → (n : NodeId) × (v ≡ ChildValue n.store n.id)
   leads_to s i x v e = leads s i x v (are.item (ChildKey s i x) v e) (λ g. are.alive (ChildKey s i x) (e ∙ ap Some g))

@@ -8,7 +8,7 @@ use Rattle.std.proofs.lemmas.List.{map-append}
 use Rattle.std.proofs.lemmas.List.Elements.{All-head, All-tail}
 use Rattle.std.proofs.lemmas.List.Sums.{fold-append}
 use Rattle.std.proofs.lemmas.Map.Keys.{sorted_tail}
-use Rattle.fx_item.specs.Item.{PlainItem, PlainKey, IsItem, item_of, items_of}
+use Rattle.fx_item.specs.Item.{PlainItem, PlainKey, IsNameItem, item_of, items_of}
 use Rattle.fx_item.specs.Look.{ItemMap, after, after_all, no_items, value_in}
 use Rattle.fx_item.specs.Order.{key_cmp}
 use Rattle.fx_item.specs.declared.item.Item.{Item}
@@ -16,10 +16,10 @@ use Rattle.fx_nodes.specs.Table.{MovesOn}
 use Rattle.fx_nodes.proofs.Keys.{item_keys}
 use Rattle.fx_nodes.proofs.Kept.{after_more, after_same}
 
-pub item_at : (xs : List Item) (i : ℕ) (x : Item) → i < length xs → x ≡ get_or xs i x → All IsItem (items_of xs) → IsItem (item_of x)
+pub item_at : (xs : List Item) (i : ℕ) (x : Item) → i < length xs → x ≡ get_or xs i x → All IsNameItem (items_of xs) → IsNameItem (item_of x)
 item_at [] i x less is all = absurd (omega arith)
-item_at (y ∷ ys) zero x less is all = subst (λ z. IsItem (item_of z)) (sym is) (All-head IsItem (item_of y) (items_of ys) all)
-item_at (y ∷ ys) (suc i) x less is all = item_at ys i x (omega arith) is (All-tail IsItem (item_of y) (items_of ys) all)
+item_at (y ∷ ys) zero x less is all = subst (λ z. IsNameItem (item_of z)) (sym is) (All-head IsNameItem (item_of y) (items_of ys) all)
+item_at (y ∷ ys) (suc i) x less is all = item_at ys i x (omega arith) is (All-tail IsNameItem (item_of y) (items_of ys) all)
 
 module _ (xs : List Item) (i : ℕ) (x : Item) (less : i < length xs) (is : x ≡ get_or xs i x) where
   rest : drop i xs ≡ x ∷ drop (i + 1) xs
@@ -32,11 +32,14 @@ module _ (xs : List Item) (i : ℕ) (x : Item) (less : i < length xs) (is : x �
   pub sorted_rest : IsStrictlySortedBy key_cmp (item_keys (items_of (drop i xs))) → IsStrictlySortedBy key_cmp (item_keys (items_of (drop (i + 1) xs)))
   sorted_rest s = sorted_tail key_cmp _ (item_keys (items_of (drop (i + 1) xs))) (subst (λ ys. IsStrictlySortedBy key_cmp (item_keys (items_of ys))) rest s)
 
-  pub items_rest : (m n : ItemMap) (q : PlainKey) → IsStrictlySortedBy key_cmp (item_keys (items_of (drop i xs))) → n q ≡ after m (item_of x ∷ []) q
+  pub named_rest : All IsNameItem (items_of (drop i xs)) → All IsNameItem (items_of (drop (i + 1) xs))
+  named_rest h = All-tail IsNameItem (item_of x) (items_of (drop (i + 1) xs)) (subst (λ ys. All IsNameItem (items_of ys)) rest h)
+
+  pub items_rest : (m n : ItemMap) (q : PlainKey) → All IsNameItem (items_of (drop i xs)) → IsStrictlySortedBy key_cmp (item_keys (items_of (drop i xs))) → n q ≡ after m (item_of x ∷ []) q
       → after n (items_of (drop (i + 1) xs)) q ≡ after m (items_of (drop i xs)) q
-  items_rest m n q s e =
+  items_rest m n q named s e =
       after_same n (after m (item_of x ∷ [])) (items_of (drop (i + 1) xs)) q e
-      ∙ after_more m x (drop (i + 1) xs) q (subst (λ ys. IsStrictlySortedBy key_cmp (item_keys (items_of ys))) rest s)
+      ∙ after_more m (item_of x) (items_of (drop (i + 1) xs)) q (subst (λ ys. All IsNameItem (items_of ys)) rest named) (subst (λ ys. IsStrictlySortedBy key_cmp (item_keys (items_of ys))) rest s)
       ∙ ap (λ ys. after m (items_of ys) q) (sym rest)
 
   -- a number goes on over one more item

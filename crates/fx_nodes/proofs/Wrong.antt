@@ -6,7 +6,7 @@ use Rattle.std.specs.List.{filter, flat_map}
 use Rattle.std.proofs.lemmas.Bool.{and_parts, eqb-true, le-leb, leb-true}
 use Rattle.std.proofs.lemmas.List.{length-take, take-append-drop}
 use Rattle.std.proofs.lemmas.Option.{option_and_then_some}
-use Rattle.fx_item.specs.Item.{ChildKey, PlainValue, GoneValue, ChildValue, PlainItem, IsItem}
+use Rattle.fx_item.specs.Item.{ChildKey, PlainValue, GoneValue, ChildValue, PlainItem, IsNameItem}
 use Rattle.fx_item.specs.Look.{ItemMap, value_in}
 use Rattle.fx_plain.specs.declared.kind.Kind.{Kind}
 use Rattle.fx_plain.specs.declared.kind.Kind.TheVariants.{Dir, File}
@@ -148,10 +148,10 @@ module _ (items : List PlainItem) (k : AreKept items) where
       by_kind (Some File) t = refl
 
   -- what stands under a child's key leads to a node
-  leads : (s i : ℕ) (x : List ℕ) (v : PlainValue) → IsItem (record { key = ChildKey s i x; value = v }) → (v ≡ GoneValue → ⊥) → (n : NodeId) × (led_to (Some v) ≡ Some n)
+  leads : (s i : ℕ) (x : List ℕ) (v : PlainValue) → IsNameItem (record { key = ChildKey s i x; value = v }) → (v ≡ GoneValue → ⊥) → (n : NodeId) × (led_to (Some v) ≡ Some n)
   leads s i x (ChildValue t j) h ne = (record { store = t; id = j }, refl)
   leads s i x GoneValue h ne = absurd (ne refl)
-  leads s i x _ h ne = absurd h.value
+  leads s i x _ h ne = absurd h.item.value
 
   pub no_parent_in : (n : NodeId) (x : List ℕ) (v : PlainValue) → n ≢ root_node → m (ChildKey n.store n.id x) ≡ Some v → object_kind m n ≢ Some Dir → IsIn (flat_map (wrong_by m) links) n
   no_parent_in n x v ne e nd =

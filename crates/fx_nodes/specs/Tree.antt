@@ -32,8 +32,8 @@ abbrev pub levels : List PlainItem → ℕ → List TreeNode
 levels items zero = []
 levels items (suc n) = levels items n ++ level_of items n
 
--- The list has each node that a path of one or more names leads to, with the path and the kind, once,
--- and parents before their children.
+-- The list has each node that a path of one or more names leads to, with the path and the kind,
+-- once, and parents before their children.
 pub record AreTreeNodes (m : ItemMap) (nodes : List TreeNode) : Type 0 where
   -- each path leads to its node, which is of that kind
   pub node : (i : ℕ) (x : TreeNode) → slice_get nodes i ≡ Some x → node_at m x.path ≡ Some x.node

@@ -16,9 +16,9 @@ use fx_plain::{Kind, MAX_NAMES};
 use std::alloc::{AllocError, Global};
 use std::collections::BTreeSet;
 
-/// The least node, by store and id, at which the items do not make a tree of nodes; `None` where they
-/// make one. Costs one pass over the items, sorting, and a look at the Object of each child; where paths
-/// are too long or nodes have many parents, up to 65 times the children.
+/// The least node, by store and id, at which the items do not make a tree of nodes; `None` where
+/// they make one. Costs one pass over the items, sorting, and a look at the Object of each child;
+/// where paths are too long or nodes have many parents, up to 65 times the children.
 pub fn check(alloc: Global, table: &ItemTable) -> Result<Option<LockKey>, AllocError>
     ensures stands { IfOk result (λ found. IfNone found (Stands (value_in table.now.items))) }
     ensures wrong { IfOk result
@@ -39,8 +39,9 @@ fn least(nodes: &[LockKey]) -> Option<LockKey>
     nodes.iter().copied().min()
 }
 
-/// The nodes that are wrong by one child: a child leads to them that may not, or they have no Object, or
-/// the root has them and they are no directory; and the nodes that have a child and are no directory.
+/// The nodes that are wrong by one child: a child leads to them that may not, or they have no
+/// Object, or the root has them and they are no directory; and the nodes that have a child and are
+/// no directory.
 fn misplaced(alloc: Global, graph: &Graph) -> Result<Vec<LockKey>, AllocError>
     ensures { IfOk result (λ wrong. wrong.items
         ≡ flat_map (wrong_by (value_in graph.now)) (links_of graph.now)) }
@@ -71,8 +72,8 @@ fn is_wrong_child(graph: &Graph, child: &Child) -> bool
     !may_lead(child.parent, child.node) || !may_be(child.parent, graph.kind(child.node))
 }
 
-/// Whether a child of one node may lead to another: one of the root to node 0 of a store, from store 1
-/// on, and any other to a node of its own store, from id 1 on.
+/// Whether a child of one node may lead to another: one of the root to node 0 of a store, from
+/// store 1 on, and any other to a node of its own store, from id 1 on.
 fn may_lead(parent: LockKey, node: LockKey) -> bool
     ensures { result ≡ may_lead parent node }
 {
@@ -82,8 +83,8 @@ fn may_lead(parent: LockKey, node: LockKey) -> bool
     node.store == parent.store && node.id >= 1
 }
 
-/// Whether what a child of that node leads to may be of that kind: one of the root a directory, and any
-/// other a directory or a file.
+/// Whether what a child of that node leads to may be of that kind: one of the root a directory, and
+/// any other a directory or a file.
 fn may_be(parent: LockKey, kind: Option<Kind>) -> bool
     ensures { result ≡ may_be parent kind }
 {

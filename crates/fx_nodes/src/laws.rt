@@ -6,8 +6,8 @@ ghost use Rattle.fx_namespace.specs.Nodes.{NodeId, Stands};
 ghost use Rattle.fx_namespace.specs.Wrong.{AreLiveItems, IsWrongAt};
 ghost use Rattle.fx_nodes.specs.Table.{AreKept, MovesOn};
 
-/// Where nothing is wrong at any node, items make a tree, if a list has each key under which one stands;
-/// and where they make a tree, nothing is wrong.
+/// Where nothing is wrong at any node, items make a tree, if a list has each key under which one
+/// stands; and where they make a tree, nothing is wrong.
 pub fn wrong_laws()
     ensures stands { (m : ItemMap) (keys : List PlainKey)
         → ((key : PlainKey) (value : PlainValue) → m key ≡ Some value → Contains keys key)
@@ -15,8 +15,8 @@ pub fn wrong_laws()
     ensures right { (m : ItemMap) (node : NodeId) → Stands m → IsWrongAt m node → ⊥ }
 {}
 
-/// What a table holds are items. Where it held what lists leave, one more `put` makes it what these lists
-/// and the new one leave; and its numbers are those after all lists.
+/// What a table holds are items. Where it held what lists leave, one more `put` makes it what these
+/// lists and the new one leave; and its numbers are those after all lists.
 pub fn table_laws()
     ensures items { (items : List PlainItem) → AreKept items → AreLiveItems (value_in items) }
     ensures put { (old now items : List PlainItem) (lists : List (List PlainItem))

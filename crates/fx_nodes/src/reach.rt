@@ -40,8 +40,8 @@ fn push_targets(graph: &Graph, node: LockKey, into: &mut Vec<LockKey>) -> Result
     Ok(())
 }
 
-/// The nodes that paths of so many names lead to, each once. Costs the children of those that shorter
-/// paths lead to, and sorting them.
+/// The nodes that paths of so many names lead to, each once. Costs the children of those that
+/// shorter paths lead to, and sorting them.
 pub(crate) fn level(alloc: Global, graph: &Graph, names: usize) -> Result<Vec<LockKey>, AllocError>
     requires { AreKept graph.now }
     ensures { IfOk result (λ level. IsLevel (value_in graph.now) names level.items) }
@@ -56,8 +56,9 @@ pub(crate) fn level(alloc: Global, graph: &Graph, names: usize) -> Result<Vec<Lo
     Ok(level)
 }
 
-/// The nodes that children lead to from some nodes on, these among them; what is left of `left` is what
-/// they do not lead to. Costs the children of these nodes, and the logarithm of the number left for each.
+/// The nodes that children lead to from some nodes on, these among them; what is left of `left` is
+/// what they do not lead to. Costs the children of these nodes, and the logarithm of the number
+/// left for each.
 pub(crate) fn spread(
     alloc: Global,
     graph: &Graph,

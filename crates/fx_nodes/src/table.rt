@@ -1,6 +1,6 @@
 //! Items in memory.
-ghost use Rattle.std.specs.Prelude.{◌≡◌, ◌∷◌, [], ℕ, All, IfOk, IsTrue, OnOk, option_map};
-ghost use Rattle.fx_item.specs.Item.{PlainKey, IsItem, item_of, items_of, key_of, value_of};
+ghost use Rattle.std.specs.Prelude.{◌≡◌, ◌∷◌, [], ℕ, All, IfOk, IsTrue, OnOk, option_copied, option_map};
+ghost use Rattle.fx_item.specs.Item.{PlainKey, IsNameItem, item_of, items_of, key_of, value_of};
 ghost use Rattle.fx_item.specs.Look.{after, key_id, key_store, next_id, next_store, value_id, value_in, value_store};
 ghost use Rattle.fx_item.specs.Order.{is_ascending};
 ghost use Rattle.fx_namespace.specs.Nodes.{object_kind, told_kind};
@@ -14,8 +14,8 @@ use std::alloc::{AllocError, Global};
 use std::collections::BTreeMap;
 use std::marker::Model;
 
-/// What stands after lists of items, in the order of the keys, and the first id and store that no item
-/// has used. Tombstones are not kept.
+/// What stands after lists of items, in the order of the keys, and the first id and store that no
+/// item has used. Tombstones are not kept.
 #[derive(Debug, Drop)]
 pub struct ItemTable {
     items: BTreeMap<Key, Value>,
@@ -67,11 +67,12 @@ impl ItemTable {
         self.next_store
     }
 
-    /// Adds a list of items: each stands in place of what stood under its key, and a tombstone takes that
-    /// away. Both numbers rise above all that the items use, as far as their types go. Costs the logarithm
-    /// of the number of items for each. On `Err` a front of the list may have been added.
+    /// Adds a list of items: each stands in place of what stood under its key, and a tombstone
+    /// takes that away. Both numbers rise above all that the items use, as far as their types go.
+    /// Costs the logarithm of the number of items for each. On `Err` a front of the list may have
+    /// been added.
     pub fn put(&mut self, items: &[Item]) -> Result<(), AllocError>
-        requires each { All IsItem (items_of items.now) }
+        requires each { All IsNameItem (items_of items.now) }
         requires ascending { IsTrue (is_ascending (items_of items.now)) }
         ensures items { OnOk result ((key : PlainKey)
             → value_in self.new.items key ≡ after (value_in self.old.items)
@@ -90,7 +91,7 @@ impl ItemTable {
     }
 
     fn put_one(&mut self, item: &Item) -> Result<(), AllocError>
-        requires { IsItem (item_of item.now) }
+        requires { IsNameItem (item_of item.now) }
         ensures items { OnOk result ((key : PlainKey)
             → value_in self.new.items key ≡ after (value_in self.old.items)
             (item_of item.now ∷ []) key) }
@@ -103,7 +104,7 @@ impl ItemTable {
     {
         apply(&mut self.items, item)?;
         let (key_store, key_id) = node_of(&item.key);
-        let (store, id) = led_to(item.value);
+        let (store, id) = led_to(&item.value);
         let id = key_id.max(id).saturating_add(1);
         let store = key_store.max(store).saturating_add(1);
         self.next_id = self.next_id.max(id);
@@ -119,7 +120,7 @@ impl ItemTable {
             store: node.store,
             id: node.id,
         };
-        told_kind(self.items.get(&key).copied())
+        told_kind(self.items.get(&key))
     }
 
     /// All children, in the order of their keys. One pass over the items.
@@ -130,7 +131,7 @@ impl ItemTable {
     {
         let mut children = Vec::new(alloc);
         for (key, value) in &self.items {
-            if let Some(child) = child_at(key, *value) {
+            if let Some(child) = child_at(key, value) {
                 children.push(child)?;
             }
         }
@@ -157,7 +158,7 @@ impl ItemTable {
 /// Adds an item to those in memory.
 fn apply(items: &mut BTreeMap<Key, Value>, item: &Item) -> Result<(), AllocError>
     requires kept { AreKept (items_in items.old.entries) }
-    requires item { IsItem (item_of item.now) }
+    requires item { IsNameItem (item_of item.now) }
     ensures kept { AreKept (items_in items.new.entries) }
     ensures items { OnOk result ((key : PlainKey)
         → value_in (items_in items.new.entries) key
@@ -167,13 +168,13 @@ fn apply(items: &mut BTreeMap<Key, Value>, item: &Item) -> Result<(), AllocError
         items.remove(&item.key);
         return Ok(());
     }
-    items.insert(copy_of(&item.key)?, item.value)?;
+    items.insert(item.key.clone()?, item.value.clone()?)?;
     Ok(())
 }
 
 /// The kind that an Object's value tells.
-fn told_kind(value: Option<Value>) -> Option<Kind>
-    ensures { result ≡ told_kind (option_map value_of value) }
+fn told_kind(value: Option<&Value>) -> Option<Kind>
+    ensures { result ≡ told_kind (option_map value_of (option_copied value.entry)) }
 {
     match value {
         Some(Value::Dir) => Some(Kind::Dir),
@@ -183,8 +184,8 @@ fn told_kind(value: Option<Value>) -> Option<Kind>
 }
 
 /// The child that an item tells, if it tells one.
-fn child_at(key: &Key, value: Value) -> Option<Child<'_>>
-    ensures { option_map link_of result ≡ link_at (key_of key.now) (value_of value) }
+fn child_at<'a>(key: &'a Key, value: &Value) -> Option<Child<'a>>
+    ensures { option_map link_of result ≡ link_at (key_of key.now) (value_of value.now) }
 {
     let Key::Child { store, id, name } = key else {
         return None;
@@ -203,47 +204,34 @@ fn child_at(key: &Key, value: Value) -> Option<Child<'_>>
         },
         name,
         node: LockKey {
-            store: to_store,
-            id: to_id,
+            store: *to_store,
+            id: *to_id,
         },
     })
 }
 
-/// The key in memory of its own.
-fn copy_of(key: &Key) -> Result<Key, AllocError>
-    ensures { IfOk result (λ copy. copy ≡ key.now) }
-{
-    match key {
-        Key::Object { store, id } => Ok(Key::Object {
-            store: *store,
-            id: *id,
-        }),
-        Key::Child { store, id, name } => Ok(Key::Child {
-            store: *store,
-            id: *id,
-            name: name.clone()?,
-        }),
-    }
-}
-
-/// The store and the id of a key.
+/// The store and the id of a key, or zeros.
 fn node_of(key: &Key) -> (u32, u64)
     ensures store { result.0 ≡ key_store (key_of key.now) }
     ensures id { result.1 ≡ key_id (key_of key.now) }
 {
     match key {
         Key::Object { store, id } => (*store, *id),
+        Key::Attribute { store, id, .. } => (*store, *id),
+        Key::Extent { store, id, .. } => (*store, *id),
         Key::Child { store, id, .. } => (*store, *id),
+        Key::Grave { store, id } => (*store, *id),
+        Key::Allocation { .. } => (0, 0),
     }
 }
 
 /// The store and the id that a value names, or zeros.
-fn led_to(value: Value) -> (u32, u64)
-    ensures store { result.0 ≡ value_store (value_of value) }
-    ensures id { result.1 ≡ value_id (value_of value) }
+fn led_to(value: &Value) -> (u32, u64)
+    ensures store { result.0 ≡ value_store (value_of value.now) }
+    ensures id { result.1 ≡ value_id (value_of value.now) }
 {
     match value {
-        Value::Child { store, id } => (store, id),
+        Value::Child { store, id } => (*store, *id),
         _ => (0, 0),
     }
 }

@@ -1,6 +1,6 @@
 //! Items given as rows: what is wrong first, and the nodes of a tree.
 ghost use Rattle.std.specs.Prelude.{IfOk, IfSome, IsTrue};
-ghost use Rattle.fx_item.specs.Item.{IsItem, IsChildValue, IsObjectValue, item_of, value_of};
+ghost use Rattle.fx_item.specs.Item.{IsNameItem, IsChildValue, IsObjectValue, item_of, value_of};
 ghost use Rattle.fx_item.specs.Name.{is_name};
 
 use crate::{ItemTable, TreeNode, check, tree_nodes};
@@ -11,7 +11,8 @@ use std::process::Abort;
 use std::test::Fail;
 
 /// Items with a comma between, an arrow, and the least node at which something is wrong. A node is
-/// `STORE.ID`, a child `NODE/NAME=NODE`, an Object `NODE=dir` or `NODE=file`; `=x` takes an item away.
+/// `STORE.ID`, a child `NODE/NAME=NODE`, an Object `NODE=dir` or `NODE=file`; `=x` takes an item
+/// away.
 const WRONG: &str = "-> none
 0.0/v=1.0,1.0=dir -> none
 0.0/v=1.0,1.0=dir,1.0/a=1.1,1.1=file,1.0/b=1.2,1.2=dir,1.2/c=1.3,1.3=dir -> none
@@ -91,7 +92,7 @@ fn child_value(text: &str) -> Result<Value, Fail>
 }
 
 fn child_item(alloc: Global, parent: &str, name: &str, text: &str) -> Result<Item, Fail>
-    ensures { IfOk result (λ item. IsItem (item_of item)) }
+    ensures { IfOk result (λ item. IsNameItem (item_of item)) }
 {
     let parent = node_of(parent)?;
     let value = child_value(text)?;
@@ -107,7 +108,7 @@ fn child_item(alloc: Global, parent: &str, name: &str, text: &str) -> Result<Ite
 }
 
 fn item_in(alloc: Global, row: &str) -> Result<Item, Fail>
-    ensures { IfOk result (λ item. IsItem (item_of item)) }
+    ensures { IfOk result (λ item. IsNameItem (item_of item)) }
 {
     let (place, text) = row.split_once("=").ok_or("no value")?;
     if let Some((parent, name)) = place.split_once("/") {
@@ -123,7 +124,7 @@ fn item_in(alloc: Global, row: &str) -> Result<Item, Fail>
 }
 
 fn put(table: &mut ItemTable, item: Item) -> Result<(), AllocError>
-    requires { IsItem (item_of item) }
+    requires { IsNameItem (item_of item) }
 {
     table.put(&[item])
 }

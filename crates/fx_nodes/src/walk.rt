@@ -22,9 +22,9 @@ pub struct TreeNode {
 /// Nodes of a tree, one after another.
 pub type TreeNodes = List<TreeNode>;
 
-/// The nodes of the tree that the items make, but the root: each with the path that leads to it, parents
-/// before their children. Costs one pass over the items, two searches and a look at the Object for each
-/// node, and the bytes of all paths.
+/// The nodes of the tree that the items make, but the root: each with the path that leads to it,
+/// parents before their children. Costs one pass over the items, two searches and a look at the
+/// Object for each node, and the bytes of all paths.
 pub fn tree_nodes(alloc: Global, table: &ItemTable) -> Result<TreeNodes, AllocError>
     requires { Stands (value_in table.now.items) }
     ensures { IfOk result (λ nodes. AreTreeNodes (value_in table.now.items) nodes) }

@@ -6,7 +6,7 @@ use Rattle.std.proofs.lemmas.Bool.{and_parts, leb-true}
 use Rattle.std.proofs.lemmas.List.Concat.{length-flat_map}
 use Rattle.std.proofs.lemmas.List.Elements.{All-head, All-tail}
 use Rattle.fx_item.specs.Name.{is_name}
-use Rattle.fx_item.specs.Item.{PlainKey, ObjectKey, AttributeKey, ExtentKey, ChildKey, GraveKey, AllocationKey, PlainValue, GoneValue, DirectoryValue, FileValue, AttributeValue, ChildValue, WaitingValue, ExtentValue, TakenValue, PlainItem, IsKey, Suits, IsItem, IsObjectValue, IsChildValue, item_bytes, node_bytes, name_bytes}
+use Rattle.fx_item.specs.Item.{PlainKey, ObjectKey, AttributeKey, ExtentKey, ChildKey, GraveKey, AllocationKey, PlainValue, GoneValue, DirectoryValue, FileValue, AttributeValue, ChildValue, WaitingValue, ExtentValue, TakenValue, PlainItem, IsKey, Suits, IsNameItem, is_name_key, IsObjectValue, IsChildValue, item_bytes, node_bytes, name_bytes}
 use Rattle.fx_record.specs.Record.{TransactionRecord, AreItems, items_bytes, record_bytes}
 use Rattle.fx_record.specs.Commits.{IsCommit}
 use Rattle.fx_record.proofs.Steps.{transaction_text}
@@ -46,23 +46,23 @@ name_len name h =
     let e = (and_parts _ _ d).0 in
     leb-true (length name) 255 (and_parts _ _ e).1
 
-pub item_len : (x : PlainItem) → IsItem x → length (item_bytes x) ≤ 282
-item_len x h = by_key x.key x.value h.key h.value
+pub item_len : (x : PlainItem) → IsNameItem x → length (item_bytes x) ≤ 282
+item_len x h = by_key x.key x.value h.kind h.item.key h.item.value
   where
-    by_key : (key : PlainKey) (value : PlainValue) → IsKey key → Suits key value → length (item_bytes (item key value)) ≤ 282
-    by_key (ObjectKey store id) value k v = omega (arith, object_len store id value v)
-    by_key (ChildKey store id name) value k v = omega (arith, name_len name k.2, child_len store id name value v)
-    by_key (AttributeKey store id name) value k v = absurd k
-    by_key (ExtentKey store id start stop) value k v = absurd k
-    by_key (GraveKey store id) value k v = absurd k
-    by_key (AllocationKey start stop) value k v = absurd k
+    by_key : (key : PlainKey) (value : PlainValue) → IsTrue (is_name_key key) → IsKey key → Suits key value → length (item_bytes (item key value)) ≤ 282
+    by_key (ObjectKey store id) value n k v = omega (arith, object_len store id value v)
+    by_key (ChildKey store id name) value n k v = omega (arith, name_len name k.2, child_len store id name value v)
+    by_key (AttributeKey store id name) value n k v = absurd (cc n)
+    by_key (ExtentKey store id start stop) value n k v = absurd (cc n)
+    by_key (GraveKey store id) value n k v = absurd (cc n)
+    by_key (AllocationKey start stop) value n k v = absurd (cc n)
 
-pub items_len : (items : List PlainItem) → All IsItem items → length (items_bytes items) ≤ 282 * length items
+pub items_len : (items : List PlainItem) → All IsNameItem items → length (items_bytes items) ≤ 282 * length items
 items_len [] h = omega arith
 items_len (x ∷ items) h =
-    omega (arith, item_len x (All-head IsItem x items h), items_len items (All-tail IsItem x items h), length-append (item_bytes x) (items_bytes items))
+    omega (arith, item_len x (All-head IsNameItem x items h), items_len items (All-tail IsNameItem x items h), length-append (item_bytes x) (items_bytes items))
 
-pub few_len : (number : ℕ) (items : List PlainItem) → All IsItem items → length (record_bytes (TransactionRecord number items)) ≤ 17 + 282 * length items
+pub few_len : (number : ℕ) (items : List PlainItem) → All IsNameItem items → length (record_bytes (TransactionRecord number items)) ≤ 17 + 282 * length items
 few_len number items h = omega (arith, items_len items h, transaction_text number items)
 
 pub few_commit : (items : List PlainItem) → AreItems items → length items ≤ 2 ^ 23 → IsCommit items

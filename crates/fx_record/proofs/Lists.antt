@@ -4,7 +4,7 @@ use Rattle.std.specs.Prelude.{All, IsTrue}
 use Rattle.std.proofs.lemmas.Bool.{and_parts, and_from}
 use Rattle.std.proofs.lemmas.List.{take_at, map-append}
 use Rattle.std.proofs.lemmas.List.Elements.{All-head, All-tail, All-take}
-use Rattle.fx_item.specs.Item.{PlainKey, ObjectKey, AttributeKey, ExtentKey, ChildKey, GraveKey, AllocationKey, PlainItem, IsItem, item_bytes, item_of, items_of}
+use Rattle.fx_item.specs.Item.{PlainKey, ObjectKey, AttributeKey, ExtentKey, ChildKey, GraveKey, AllocationKey, PlainItem, IsNameItem, item_bytes, item_of, items_of}
 use Rattle.fx_item.specs.Order.{may_follow, is_ascending}
 use Rattle.fx_item.specs.Reading.{item_at}
 use Rattle.fx_item.specs.declared.item.Item.{Item}
@@ -46,7 +46,7 @@ ascending_front (x ∷ y ∷ rest) b h =
 
 pub front_items : (a b : List PlainItem) → AreItems (a ++ b) → AreItems a
 front_items a b h = record {
-  each = subst (λ (w : List PlainItem). All IsItem w) (take_at a b (length a) refl) (All-take IsItem (length a) (a ++ b) h.each);
+  each = subst (λ (w : List PlainItem). All IsNameItem w) (take_at a b (length a) refl) (All-take IsNameItem (length a) (a ++ b) h.each);
   ascending = ascending_front a b h.ascending;
 }
 
@@ -78,17 +78,17 @@ count-le-bytes (x ∷ xs) =
     let rest = count-le-bytes xs in
     omega (arith, length-append (item_bytes x) (items_bytes xs))
 
-item_unique : (x y : PlainItem) (a b : List ℕ) → IsItem x → IsItem y → item_bytes x ++ a ≡ item_bytes y ++ b → (x ≡ y) × (a ≡ b)
+item_unique : (x y : PlainItem) (a b : List ℕ) → IsNameItem x → IsNameItem y → item_bytes x ++ a ≡ item_bytes y ++ b → (x ≡ y) × (a ≡ b)
 item_unique x y a b hx hy e =
-    let same = some_is (x, a) (y, b) (sym (item_again x a hx) ∙ ap item_at e ∙ item_again y b hy) in
+    let same = some_is (x, a) (y, b) (sym (item_again x a hx.item) ∙ ap item_at e ∙ item_again y b hy.item) in
     (ap (λ (p : PlainItem × List ℕ). p.0) same, ap (λ (p : PlainItem × List ℕ). p.1) same)
 
 -- The shorter list that begins the bytes begins the longer one.
-pub items_begin : (xs ys : List PlainItem) (l m : List ℕ) → All IsItem xs → All IsItem ys → length xs ≤ length ys → items_bytes xs ++ l ≡ items_bytes ys ++ m → (zs : List PlainItem) × (ys ≡ xs ++ zs) × (l ≡ items_bytes zs ++ m)
+pub items_begin : (xs ys : List PlainItem) (l m : List ℕ) → All IsNameItem xs → All IsNameItem ys → length xs ≤ length ys → items_bytes xs ++ l ≡ items_bytes ys ++ m → (zs : List PlainItem) × (ys ≡ xs ++ zs) × (l ≡ items_bytes zs ++ m)
 items_begin [] ys l m hx hy le e = (ys, refl, e)
 items_begin (x ∷ xs) [] l m hx hy le e = absurd (omega arith)
 items_begin (x ∷ xs) (y ∷ ys) l m hx hy le e =
     let grouped = sym (append_assoc (item_bytes x) (items_bytes xs) l) ∙ e ∙ append_assoc (item_bytes y) (items_bytes ys) m in
-    let one = item_unique x y (items_bytes xs ++ l) (items_bytes ys ++ m) (All-head IsItem x xs hx) (All-head IsItem y ys hy) grouped in
-    let rest = items_begin xs ys l m (All-tail IsItem x xs hx) (All-tail IsItem y ys hy) (omega arith) one.1 in
+    let one = item_unique x y (items_bytes xs ++ l) (items_bytes ys ++ m) (All-head IsNameItem x xs hx) (All-head IsNameItem y ys hy) grouped in
+    let rest = items_begin xs ys l m (All-tail IsNameItem x xs hx) (All-tail IsNameItem y ys hy) (omega arith) one.1 in
     (rest.0, ap (λ (w : PlainItem). w ∷ ys) (sym one.0) ∙ ap (λ (w : List PlainItem). x ∷ w) rest.1, rest.2)

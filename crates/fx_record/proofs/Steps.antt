@@ -4,7 +4,7 @@ use Rattle.std.specs.Prelude.{All, IfOk, IfErr}
 use Rattle.std.proofs.lemmas.List.{get_or-map, length-map, at_drop_more, take_more, take-append-drop, take-take, drop-take, take_all}
 use Rattle.std.proofs.lemmas.List.Elements.{All-get_or, All-push}
 use Rattle.byteorder.specs.Endian.{little_bytes, little_number}
-use Rattle.fx_item.specs.Item.{PlainItem, IsItem, item_bytes, item_of, items_of}
+use Rattle.fx_item.specs.Item.{PlainItem, IsNameItem, item_bytes, item_of, items_of}
 use Rattle.fx_item.specs.Order.{is_ascending}
 use Rattle.fx_item.specs.declared.item.Item.{Item}
 use Rattle.fx_item.proofs.Fields.{IsBytes, IsBytes-drop, wide4, wide8}
@@ -21,9 +21,9 @@ use Rattle.fx_record.proofs.Faults.{no_fault, one_fault, same_record}
 
 -- ---- writing
 
-pub is_item : (xs : List Item) (i : ℕ) (x : Item) → i < length xs → x ≡ get_or xs i x → All IsItem (items_of xs) → IsItem (item_of x)
+pub is_item : (xs : List Item) (i : ℕ) (x : Item) → i < length xs → x ≡ get_or xs i x → All IsNameItem (items_of xs) → IsNameItem (item_of x)
 is_item xs i x lt e all =
-    subst IsItem (get_or-map item_of xs i x (item_of x) lt ∙ ap item_of (sym e)) (All-get_or IsItem (items_of xs) i (item_of x) (omega (arith, length-map xs item_of)) all)
+    subst IsNameItem (get_or-map item_of xs i x (item_of x) lt ∙ ap item_of (sym e)) (All-get_or IsNameItem (items_of xs) i (item_of x) (omega (arith, length-map xs item_of)) all)
 
 pub len_more : (xs : List Item) (i : ℕ) (x : Item) → i < length xs → x ≡ get_or xs i x →
     length (items_bytes (items_of (drop i xs))) ≡ length (item_bytes (item_of x)) + length (items_bytes (items_of (drop (i + 1) xs)))
@@ -67,14 +67,14 @@ transaction_written old mid grown new head number n items mid_is grown_is head_i
 
 -- ---- reading
 
-pub takes : (items news : List Item) (found : Item) (len : ℕ) (bytes rest : List ℕ) → AreItems (items_of items) → news ≡ items ++ found ∷ [] → IsItem (item_of found) →
+pub takes : (items news : List Item) (found : Item) (len : ℕ) (bytes rest : List ℕ) → AreItems (items_of items) → news ≡ items ++ found ∷ [] → IsNameItem (item_of found) →
     is_ascending (items_of items ++ item_of found ∷ []) ≡ true → take len bytes ≡ item_bytes (item_of found) → rest ≡ drop len bytes → TakesItem (items_of items) bytes (items_of news) rest
 takes items news found len bytes rest h more is ascending front after =
     let same = ap items_of more ∙ items_of-push items found in
     record {
       item = item_of found;
       more_is = same;
-      are_items = subst AreItems (sym same) (record { each = All-push IsItem (items_of items) (item_of found) h.each is; ascending = ascending });
+      are_items = subst AreItems (sym same) (record { each = All-push IsNameItem (items_of items) (item_of found) h.each is; ascending = ascending });
       parts = sym (take-append-drop len bytes) ∙ ap (λ (w : List ℕ). w ++ drop len bytes) front ∙ ap (λ (w : List ℕ). item_bytes (item_of found) ++ w) (sym after);
     }
 

@@ -1,5 +1,5 @@
--- Commits that are appended to a stream: their transactions are numbered one after another, and their
--- records are put in blocks of one epoch. A stop leaves the first bytes of the records.
+-- Commits that are appended to a stream: their transactions are numbered one after another, and
+-- their records are put in blocks of one epoch. A stop leaves the first bytes of the records.
 use Rattle.std.specs.Prelude.{◌≡◌, ℕ, ◌+◌, ◌^◌, ◌<◌, ◌≤◌, List, [], ◌∷◌, ◌++◌, length, map, take, All}
 use Rattle.std.specs.List.{flat_map}
 use Rattle.fx_item.specs.Item.{PlainItem}
@@ -45,7 +45,8 @@ AreOf epoch blocks = All (λ block. block.0 ≡ epoch) blocks
 
 -- ---- what a cut keeps
 
--- The bytes are the first `count` of the records, and a cut record or nothing. No more of the records are whole.
+-- The bytes are the first `count` of the records, and a cut record or nothing. No more of the
+-- records are whole.
 pub record CutsRecords (records : List PlainRecord) (bytes : List ℕ) (count : ℕ) : Type 0 where
   pub tail : List ℕ
   pub most : count ≤ length records

@@ -3,7 +3,7 @@
 use Rattle.std.specs.Prelude.{ℕ, ◌<◌, ◌^◌, List, ◌∷◌, ◌++◌, length, All, IsTrue}
 use Rattle.std.specs.List.{flat_map}
 use Rattle.byteorder.specs.Endian.{little_bytes}
-use Rattle.fx_item.specs.Item.{PlainItem, IsItem, item_bytes, items_of}
+use Rattle.fx_item.specs.Item.{PlainItem, IsNameItem, item_bytes, items_of}
 use Rattle.fx_item.specs.Order.{is_ascending}
 use Rattle.fx_record.specs.declared.record.Record.{Record}
 use Rattle.fx_record.specs.declared.record.Record.TheVariants as records
@@ -19,7 +19,7 @@ plain_record (records.Discard number) = DiscardRecord number
 
 -- Each is an item, and each may follow the one before it.
 pub record AreItems (items : List PlainItem) : Type 0 where
-  pub each : All IsItem items
+  pub each : All IsNameItem items
   pub ascending : IsTrue (is_ascending items)
 
 -- ---- the one spelling of each record

@@ -1,4 +1,5 @@
--- The transactions that a stream of blocks leaves. A block of the stream is its epoch and its record bytes.
+-- The transactions that a stream of blocks leaves. A block of the stream is its epoch and its
+-- record bytes.
 use Rattle.std.specs.Prelude.{◌≡◌, ℕ, ◌+◌, Bool, true, false, ◌&&◌, ◌==◌, nat_le, if◌then◌else◌, List, [], ◌∷◌, ◌++◌, length, map, filter, IsTrue}
 use Rattle.std.specs.List.{fold, flat_map}
 use Rattle.fx_item.specs.Item.{PlainItem, items_of}
@@ -54,8 +55,8 @@ abbrev pub number_of : PlainRecord → ℕ
 number_of (TransactionRecord number items) = number
 number_of (DiscardRecord number) = number
 
--- The record may come after this number: a transaction has the next one, and a discard none above it, nor
--- one below the base.
+-- The record may come after this number: a transaction has the next one, and a discard none above
+-- it, nor one below the base.
 abbrev pub may_come : (base last : ℕ) → PlainRecord → Bool
 may_come base last (TransactionRecord number items) = number == last + 1
 may_come base last (DiscardRecord number) = nat_le base number && nat_le number last
@@ -79,7 +80,8 @@ put txns (DiscardRecord number) = filter (λ t. nat_le t.0 number) txns
 abbrev pub txns_left_by : List PlainRecord → List (ℕ × List PlainItem)
 txns_left_by records = fold put [] records
 
--- The blocks hold records in order from the base on, and these are the transactions that they leave.
+-- The blocks hold records in order from the base on, and these are the transactions that they
+-- leave.
 pub record IsTxns (base : ℕ) (blocks : List (ℕ × List ℕ))
     (txns : List (ℕ × List PlainItem)) : Type 0 where
   pub records : List PlainRecord

@@ -1,8 +1,8 @@
-//! What holds of records, of the transactions of a stream, and of commits that are appended to one, for
-//! those who prove: the functions do nothing.
+//! What holds of records, of the transactions of a stream, and of commits that are appended to one,
+//! for those who prove: the functions do nothing.
 ghost use Rattle.std.specs.Prelude.{◌≡◌, ℕ, ◌+◌, ◌*◌, ◌^◌, ◌<◌, ◌≤◌, List, [], ◌∷◌, ◌++◌, length, map, take, drop, All, Some, slice_get};
 ghost use Rattle.std.specs.List.{concat, sum_by};
-ghost use Rattle.fx_item.specs.Item.{ObjectKey, ChildKey, FileValue, PlainValue, PlainItem, IsItem, IsObjectValue, IsChildValue, item_bytes};
+ghost use Rattle.fx_item.specs.Item.{ObjectKey, ChildKey, FileValue, PlainValue, PlainItem, IsNameItem, IsObjectValue, IsChildValue, item_bytes};
 ghost use Rattle.fx_record.specs.Record.{PlainRecord, TransactionRecord, DiscardRecord, AreItems, IsRecord, record_bytes};
 ghost use Rattle.fx_record.specs.Txns.{epoch_texts, all_bytes, last_number, IsTxns, IsBadRecord};
 ghost use Rattle.fx_record.specs.Progress.{IsNumbered};
@@ -19,13 +19,13 @@ pub fn record_length()
     ensures child { (store id : ℕ) (name : List ℕ) (value : PlainValue) → IsChildValue value
         → length (item_bytes (record { key = ChildKey store id name; value = value }))
         ≤ 27 + length name }
-    ensures item { (x : PlainItem) → IsItem x → length (item_bytes x) ≤ 282 }
-    ensures few { (number : ℕ) (items : List PlainItem) → All IsItem items
+    ensures item { (x : PlainItem) → IsNameItem x → length (item_bytes x) ≤ 282 }
+    ensures few { (number : ℕ) (items : List PlainItem) → All IsNameItem items
         → length (record_bytes (TransactionRecord number items)) ≤ 17 + 282 * length items }
 {}
 
-/// The bytes of the records of one item or two: of a file's length, of a node, and of a node with the child
-/// that names it.
+/// The bytes of the records of one item or two: of a file's length, of a node, and of a node with
+/// the child that names it.
 pub fn short_records()
     ensures file { (number store id len : ℕ)
         → length (record_bytes (TransactionRecord number
@@ -47,8 +47,8 @@ pub fn short_records()
         ∷ record { key = ObjectKey store id; value = value } ∷ []))) ≤ 317 }
 {}
 
-/// A commit is a record under each number below 2^64. Items that ascend are a commit where there are at most
-/// 2^23 of them.
+/// A commit is a record under each number below 2^64. Items that ascend are a commit where there
+/// are at most 2^23 of them.
 pub fn commit_records()
     ensures record { (number : ℕ) (items : List PlainItem) → number < 2 ^ 64 → IsCommit items
         → IsRecord (TransactionRecord number items) }
@@ -58,8 +58,8 @@ pub fn commit_records()
         → IsCommit items }
 {}
 
-/// Commits that are numbered one after another, and one more of them. How many bytes they have does not
-/// depend on their numbers.
+/// Commits that are numbered one after another, and one more of them. How many bytes they have does
+/// not depend on their numbers.
 pub fn numbered_commits()
     ensures items { (last : ℕ) (commits : List (List PlainItem))
         → map (λ t. t.1) (numbered last commits) ≡ commits }
@@ -83,9 +83,10 @@ pub fn numbered_commits()
         → 17 * length commits ≤ length (commits_bytes last commits) }
 {}
 
-/// The first bytes of records are the first of the records and a cut one or nothing, and all of the records
-/// where no bytes are missing. Of commits they keep one number of them, and more bytes keep no fewer. Where
-/// the bytes are cut into blocks, commits that lie in the first blocks are kept with these.
+/// The first bytes of records are the first of the records and a cut one or nothing, and all of the
+/// records where no bytes are missing. Of commits they keep one number of them, and more bytes keep
+/// no fewer. Where the bytes are cut into blocks, commits that lie in the first blocks are kept
+/// with these.
 pub fn cut_records()
     ensures records { (records : List PlainRecord) (cut rest : List ℕ) → All IsRecord records
         → cut ++ rest ≡ records_bytes records
@@ -112,8 +113,8 @@ pub fn cut_records()
         ≤ length (concat (take m texts)) → n ≤ count }
 {}
 
-/// Blocks of one epoch after blocks of earlier ones, or no blocks at all, add to the transactions of the
-/// stream the commits that their bytes keep.
+/// Blocks of one epoch after blocks of earlier ones, or no blocks at all, add to the transactions
+/// of the stream the commits that their bytes keep.
 pub fn one_more_epoch()
     ensures blocks { (base epoch : ℕ) (read more : List (ℕ × List ℕ))
         (txns : List (ℕ × List PlainItem)) (commits : List (List PlainItem)) (count : ℕ)
@@ -142,8 +143,8 @@ pub fn one_more_epoch()
         → epoch_texts (read ++ block ∷ more) ≡ epoch_texts read ++ all_bytes (block ∷ more) ∷ [] }
 {}
 
-/// Blocks that hold texts are of their epoch, with the texts as their bytes, and all blocks of one epoch are
-/// such. Epochs up to one are before the next.
+/// Blocks that hold texts are of their epoch, with the texts as their bytes, and all blocks of one
+/// epoch are such. Epochs up to one are before the next.
 pub fn blocks_of_an_epoch()
     ensures epoch { (epoch : ℕ) (texts : List (List ℕ)) → AreOf epoch (blocks_of epoch texts) }
     ensures bytes { (epoch : ℕ) (texts : List (List ℕ))
@@ -154,8 +155,8 @@ pub fn blocks_of_an_epoch()
         → All (λ block. block.0 ≤ epoch) blocks → AreBefore (epoch + 1) blocks }
 {}
 
-/// The transactions of a stream are numbered one after another from the base on, below 2^64 where the base
-/// is, and each is a commit.
+/// The transactions of a stream are numbered one after another from the base on, below 2^64 where
+/// the base is, and each is a commit.
 pub fn txns_numbers()
     ensures number { (base : ℕ) (blocks : List (ℕ × List ℕ)) (txns : List (ℕ × List PlainItem))
         (i : ℕ) (t : ℕ × List PlainItem)

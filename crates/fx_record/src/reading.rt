@@ -1,6 +1,6 @@
 //! Records from bytes.
 ghost use Rattle.std.specs.Prelude.{◌≡◌, ◌≤◌, ◌<◌, ◌+◌, ◌^◌, ◌++◌, ◌∷◌, [], ◌⊎◌, ℕ, List, length, take, IfOk, IfErr, IsTrue, MatchResult};
-ghost use Rattle.fx_item.specs.Item.{PlainItem, IsItem, item_of, items_of, item_bytes};
+ghost use Rattle.fx_item.specs.Item.{PlainItem, IsNameItem, item_of, items_of, item_bytes};
 ghost use Rattle.fx_item.specs.Order.{is_ascending};
 ghost use Rattle.fx_record.specs.Record.{PlainRecord, AreItems, IsRecord, plain_record, items_bytes, record_bytes};
 ghost use Rattle.fx_record.specs.Reading.{IsFault, IsRecordReadAs, IsRefusedAs, ItemRead, ItemsRead, BodyRead};
@@ -8,11 +8,12 @@ ghost use Rattle.fx_record.specs.Reading.{IsFault, IsRecordReadAs, IsRefusedAs, 
 use crate::record::{Record, RecordFault};
 use crate::writing::{DISCARD, DISCARD_BODY, LENGTH_BYTES, TRANSACTION, TRANSACTION_BODY};
 use byteorder::{ByteOrder, LittleEndian};
-use fx_item::{Item, ItemFault, Items, decode};
+use fx_item::{Item, ItemFault, Items, decode_name};
 use std::alloc::Global;
 
-/// The record at the front of the bytes, and how many bytes it takes. Each record has one spelling, so there
-/// is at most one. Takes memory for the items that are there, whatever count is stated. One pass.
+/// The record at the front of the bytes, and how many bytes it takes. Each record has one spelling,
+/// so there is at most one. Takes memory for the items that are there, whatever count is stated.
+/// One pass.
 pub fn decode_record(alloc: Global, bytes: &[u8]) -> Result<(Record, usize), RecordFault>
     // What is read is a record, and these bytes are its bytes.
     ensures found { IfOk result (λ r. IsRecord (plain_record r.0) × (r.1 ≤ length bytes.now)
@@ -103,7 +104,7 @@ fn read_item<'a>(
     ensures { ItemRead place (items_of items.old.items) bytes.now
         (items_of items.new.items) result }
 {
-    let (item, len) = match decode(alloc, bytes) {
+    let (item, len) = match decode_name(alloc, bytes) {
         Ok(found) => found,
         Err(ItemFault::Bad) => return Err(RecordFault::BadItem(place)),
         Err(ItemFault::OutOfMemory) => return Err(RecordFault::OutOfMemory),

@@ -24,8 +24,8 @@ pub enum RecordFault {
     /// The length is 0, or the tag is unknown, or the length does not suit the tag.
     #[error("bad tag or length")]
     BadTag,
-    /// The item at this place, counted from 0, is none, or does not lie after the one before; at the
-    /// place that is the count of items, bytes are left.
+    /// The item at this place, counted from 0, is none, or does not lie after the one before; at
+    /// the place that is the count of items, bytes are left.
     #[error("bad item {0}")]
     BadItem(u32),
     /// There is not enough memory.

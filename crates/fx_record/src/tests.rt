@@ -21,8 +21,8 @@ const MAKE_V: [u8; 59] = [
 /// unknown tag, a discard of another length.
 const BAD_TAGS: [(usize, u8); 5] = [(0, 0), (0, 12), (4, 0), (4, 3), (4, 2)];
 
-/// Changes of one byte that make an item bad, and its place: no item, no room for one, no third one,
-/// bytes left after the first, a second one that lies before the first.
+/// Changes of one byte that make an item bad, and its place: no item, no room for one, no third
+/// one, bytes left after the first, a second one that lies before the first.
 const BAD_ITEMS: [(usize, u8, u32); 7] = [
     (17, 0, 0),
     (0, 13, 0),
@@ -126,9 +126,9 @@ fn refused(rt: HostRuntime) -> Result<(), Fail> {
 }
 
 /// A line a stream: the base, then after a bar each block's epoch and its records, and what the
-/// stream leaves: the numbers of the transactions, or the place of the first bad record. A record is a
-/// transaction's number, or that of a discard after a `d`; `c` is a record that is cut off after three
-/// bytes, and `x` one of length 0.
+/// stream leaves: the numbers of the transactions, or the place of the first bad record. A record
+/// is a transaction's number, or that of a discard after a `d`; `c` is a record that is cut off
+/// after three bytes, and `x` one of length 0.
 const STREAMS: &str = "\
 0 =>
 0 | 1: 1 2 | 1: 3 => 1 2 3

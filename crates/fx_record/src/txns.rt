@@ -22,8 +22,8 @@ pub struct Piece {
 /// Why the records of a stream were not read.
 #[derive(Debug, Drop, Error)]
 pub enum TxnsFault {
-    /// The record at this place in the stream, counted from 0, is none, or its number is out of order.
-    /// Bytes that are dropped do not count.
+    /// The record at this place in the stream, counted from 0, is none, or its number is out of
+    /// order. Bytes that are dropped do not count.
     #[error("bad record {0}")]
     BadRecord(u32),
     /// There is not enough memory.
@@ -64,11 +64,12 @@ struct Progress {
     txns: Vec<(u64, Items)>,
 }
 
-/// The transactions that the records in these blocks leave, after `base` transactions. The record bytes
-/// of neighbours of one epoch are joined, and what is cut at the end of an epoch's bytes is dropped. The
-/// numbers follow each other from `base` on: a transaction has the next one, and after a discard of what is
-/// past `k`, which is at least `base` and at most the number before, the next one is `k + 1`. There are
-/// fewer than 2^32 bytes (`is_short`). Costs their number: each is copied once.
+/// The transactions that the records in these blocks leave, after `base` transactions. The record
+/// bytes of neighbours of one epoch are joined, and what is cut at the end of an epoch's bytes is
+/// dropped. The numbers follow each other from `base` on: a transaction has the next one, and after
+/// a discard of what is past `k`, which is at least `base` and at most the number before, the next
+/// one is `k + 1`. There are fewer than 2^32 bytes (`is_short`). Costs their number: each is copied
+/// once.
 pub fn read_txns(alloc: Global, base: u64, pieces: &[Piece]) -> Result<Txns, TxnsFault>
     requires { length (all_bytes (pieces_of pieces.now)) < 2 ^ 32 }
     // What is answered is so: the transactions, or the first bad record.
@@ -83,7 +84,8 @@ pub fn read_txns(alloc: Global, base: u64, pieces: &[Piece]) -> Result<Txns, Txn
     read_all(alloc, base, pieces)
 }
 
-/// Whether there are fewer than 2^32 record bytes in these blocks, as `read_txns` wants. One step a block.
+/// Whether there are fewer than 2^32 record bytes in these blocks, as `read_txns` wants. One step a
+/// block.
 pub fn is_short(pieces: &[Piece]) -> bool
     ensures short { IsTrue result → length (all_bytes (pieces_of pieces.now)) < 2 ^ 32 }
     ensures long { IsFalse result → 2 ^ 32 ≤ length (all_bytes (pieces_of pieces.now)) }
@@ -173,7 +175,8 @@ fn read_run(alloc: Global, base: u64, progress: &mut Progress, text: &[u8]) -> R
     Ok(())
 }
 
-/// Takes the record at the front of the bytes, and gives the bytes after it. None where they are cut.
+/// Takes the record at the front of the bytes, and gives the bytes after it. None where they are
+/// cut.
 fn read_next<'a>(
     alloc: Global,
     base: u64,
@@ -241,8 +244,8 @@ impl Progress {
         Ok(())
     }
 
-    /// Drops the transactions past a number. They are numbered from `base` on, so that those up to it are
-    /// known by their count.
+    /// Drops the transactions past a number. They are numbered from `base` on, so that those up to
+    /// it are known by their count.
     fn discard(&mut self, base: u64, number: u64)
         requires numbered { Numbered base (read_state self.old) }
         requires room { self.old.read + 1 < 2 ^ 32 }

@@ -1,7 +1,7 @@
 //! Records as bytes.
 ghost use Rattle.std.specs.Prelude.{◌≡◌, ◌<◌, ◌^◌, ◌++◌, ◌∷◌, ℕ, List, length, take, All, OnOk, OnErr};
 ghost use Rattle.byteorder.specs.Endian.{little_bytes};
-ghost use Rattle.fx_item.specs.Item.{PlainItem, IsItem, items_of};
+ghost use Rattle.fx_item.specs.Item.{PlainItem, IsNameItem, items_of};
 ghost use Rattle.fx_record.specs.Record.{TransactionRecord, IsRecord, DiscardRecord, plain_record, items_bytes, record_bytes};
 ghost use Rattle.fx_record.specs.Writing.{head_bytes, HoldsTransaction};
 
@@ -34,9 +34,9 @@ const DISCARD_BYTES: usize = 13;
 /// Where a record's number stands.
 const NUMBER_AT: usize = 5;
 
-/// Appends the bytes of a record. The items of a transaction keep the rules of items and ascend, and what
-/// follows the length has fewer than 2^32 bytes. Where memory is refused `into` is as before. Two passes over
-/// the items.
+/// Appends the bytes of a record. The items of a transaction keep the rules of items and ascend,
+/// and what follows the length has fewer than 2^32 bytes. Where memory is refused `into` is as
+/// before. Two passes over the items.
 pub fn encode_record(rec: &Record, into: &mut Vec<u8>) -> Result<(), AllocError>
     requires { IsRecord (plain_record rec.now) }
     ensures ok { OnOk result (into.new.items
@@ -90,7 +90,7 @@ fn append_discard(number: u64, into: &mut Vec<u8>) -> Result<(), AllocError>
 
 /// Appends the bytes of the items, or some of them where memory is refused.
 fn append_items(items: &[Item], into: &mut Vec<u8>) -> Result<(), AllocError>
-    requires { All IsItem (items_of items.now) }
+    requires { All IsNameItem (items_of items.now) }
     ensures ok { OnOk result (into.new.items ≡ into.old.items ++ items_bytes (items_of items.now)) }
     ensures err { OnErr result (take (length into.old.items) into.new.items ≡ into.old.items) }
 {
@@ -140,7 +140,7 @@ pub fn length(rec: &Record) -> u32
 
 /// How many bytes the items have.
 fn items_len(items: &[Item]) -> usize
-    requires items { All IsItem (items_of items.now) }
+    requires items { All IsNameItem (items_of items.now) }
     requires short { length (items_bytes (items_of items.now)) < 2 ^ 32 }
     ensures { result ≡ length (items_bytes (items_of items.now)) }
 {
@@ -151,8 +151,8 @@ fn items_len(items: &[Item]) -> usize
     len
 }
 
-/// Gives the transaction whose record stands at the front of the bytes another number, and changes nothing
-/// else. No memory.
+/// Gives the transaction whose record stands at the front of the bytes another number, and changes
+/// nothing else. No memory.
 pub fn set_number(bytes: &mut [u8], number: u64)
     requires { HoldsTransaction bytes.old }
     ensures { (old : ℕ) (items : List PlainItem) (rest : List ℕ)

@@ -1,6 +1,6 @@
 use Rattle.std.proofs.Common.{◌≡◌, ℕ, ◌+◌, ◌<◌, ◌++◌, List, [], ◌∷◌, length, length-append, get_or, cond, sym, subst, ap, ◌∙◌, arith}
 use Rattle.std.specs.Prelude.{nat_lt, Option, None}
-use Rattle.fx_item.specs.Look.{ItemMap}
+use Rattle.fx_item.specs.Look.{ItemMap, map_of}
 use Rattle.fx_item.specs.declared.lock.LockKey.{LockKey}
 use Rattle.fx_plain.specs.declared.kind.Kind.{Kind}
 use Rattle.fx_plain.specs.declared.kind.Kind.TheVariants.{Dir}
@@ -14,7 +14,7 @@ use Rattle.fx_dir.proofs.walk.walk_path.Goals as goal
 
 pub returns-then-eq-clause-tree : goal.returns-then-eq-clause-tree
 returns-then-eq-clause-tree g c = λ h t tree.
-    let w = subst (λ p. IsWalkTo (g.L.Look.items c.args.look.now) p c.loop-name.name-index c.loop-name.dirs.items c.loop-name.at c.loop-name.kind) c.as_slice-names.ensures c.loop-name.invariant in
+    let w = subst (λ p. IsWalkTo (map_of (g.L.Look.said c.args.look.now)) p c.loop-name.name-index c.loop-name.dirs.items c.loop-name.at c.loop-name.kind) c.as_slice-names.ensures c.loop-name.invariant in
     in_tree tree c.args.path.now c.loop-name.dirs.items w.through (Stopped NotDir) (ends_at_file w (is_file _ c.if-eq.ensures) (omega (arith, ap length c.as_slice-names.ensures)))
 
 -- the directories with one more
@@ -41,7 +41,7 @@ ended m path names i dirs more at kind name n end found same w dir less is found
 pub returns-in_default-clause-end : goal.returns-in_default-clause-end
 returns-in_default-clause-end g c =
     ended _ c.args.path.now _ _ _ c.new-walked.result _ _ c.name-item.result (length c.as_slice.result.now) c.nothing_after-end.result c.in_ok-next.field-0 c.as_slice-names.ensures c.loop-name.invariant (is_dir _ c.if-eq.ensures) c.loop-name-test.true c.name-item.is
-    c.in_ok-next.ensures c.in_default.is (c.new-walked.ensures ∙ c.in_ok-push.ensures.items) (ap length c.as_slice.ensures) c.nothing_after-end.ensures
+    c.in_ok-next.ensures.found c.in_default.is (c.new-walked.ensures ∙ c.in_ok-push.ensures.items) (ap length c.as_slice.ensures) c.nothing_after-end.ensures
 
 pub returns-in_default-clause-tree : goal.returns-in_default-clause-tree
 returns-in_default-clause-tree g c = λ h t tree.
@@ -49,10 +49,10 @@ returns-in_default-clause-tree g c = λ h t tree.
 
 pub loop-name-preserved : goal.loop-name-preserved
 loop-name-preserved g c =
-    let w = one_more c.loop-name.invariant (is_dir _ c.if-eq.ensures) c.name-item.result c.in-Some.next c.in-Some.next_kind c.loop-name-test.true c.name-item.is (sym c.in_ok-next.ensures ∙ c.in-Some.is) in
-    subst (λ d. IsWalkTo (g.L.Look.items c.args.look.now) c.as_slice-names.result.now (c.loop-name.name-index + 1) d c.in-Some.next c.in-Some.next_kind) (sym c.in_ok-push.ensures.items) w
+    let w = one_more c.loop-name.invariant (is_dir _ c.if-eq.ensures) c.name-item.result c.in-Some.next c.in-Some.next_kind c.loop-name-test.true c.name-item.is (sym c.in_ok-next.ensures.found ∙ c.in-Some.is) in
+    subst (λ d. IsWalkTo (map_of (g.L.Look.said c.args.look.now)) c.as_slice-names.result.now (c.loop-name.name-index + 1) d c.in-Some.next c.in-Some.next_kind) (sym c.in_ok-push.ensures.items) w
 
 pub returns-clause-tree : goal.returns-clause-tree
 returns-clause-tree g c = λ h t tree.
-    let w = subst (λ p. IsWalkTo (g.L.Look.items c.args.look.now) p c.loop-name.name-index c.loop-name.dirs.items c.loop-name.at c.loop-name.kind) c.as_slice-names.ensures c.loop-name.invariant in
+    let w = subst (λ p. IsWalkTo (map_of (g.L.Look.said c.args.look.now)) p c.loop-name.name-index c.loop-name.dirs.items c.loop-name.at c.loop-name.kind) c.as_slice-names.ensures c.loop-name.invariant in
     in_tree tree c.args.path.now c.loop-name.dirs.items w.through (Node c.loop-name.at c.loop-name.kind) (ends_at_node w (omega (arith, ap length c.as_slice-names.ensures)) (omega (arith, ap length c.as_slice-names.ensures)))

@@ -4,7 +4,7 @@ use Rattle.fx_record.proofs.writing.items_len.Goals as goal
 
 pub encoded_len-len-requires : goal.encoded_len-len-requires
 encoded_len-len-requires c =
-    is_item c.args.items.now c.loop-item.item-index c.item-item.result (omega arith) c.item-item.is c.requires.items
+    (is_item c.args.items.now c.loop-item.item-index c.item-item.result (omega arith) c.item-item.is c.requires.items).item
 
 pub overflow_add-len : goal.overflow_add-len
 overflow_add-len c =

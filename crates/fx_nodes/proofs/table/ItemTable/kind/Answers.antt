@@ -10,6 +10,6 @@ use Rattle.fx_nodes.proofs.table.ItemTable.kind.Goals as goal
 pub returns : goal.returns
 returns c =
     c.told_kind.ensures
-    ∙ ap (λ o. told_kind (option_map value_of o)) (c.copied.ensures ∙ c.get.ensures.value)
+    ∙ ap (λ o. told_kind (option_map value_of o)) (c.get.ensures.value)
     ∙ ap told_kind (sym (value_in-lookup c.self.inside.items.entries (keys.Object c.args.node.store c.args.node.id)))
     ∙ ap (λ t. object_kind (value_in t.items) c.args.node) c.self.view_is
