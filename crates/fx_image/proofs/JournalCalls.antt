@@ -1,5 +1,5 @@
 -- What a disk has of a journal, over commits, writes and flushes.
-use Rattle.std.proofs.Common.{◌≡◌, ℕ, ◌+◌, ◌≤◌, Bool, true, List, [], ◌∷◌, ◌++◌, length, set, arith}
+use Rattle.std.proofs.Common.{◌≡◌, ℕ, ◌+◌, Bool, true, List, [], ◌∷◌, ◌++◌, length, set, arith}
 use Rattle.std.specs.Prelude.{Some, slice_get}
 use Rattle.fx_disk.specs.Record.{DiskRecord}
 use Rattle.fx_disk.specs.Steps.{IsRecordOf, with_write, with_flush}

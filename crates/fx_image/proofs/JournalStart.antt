@@ -1,5 +1,5 @@
 -- The journal of a disk that was just mounted.
-use Rattle.std.proofs.Common.{◌≡◌, ℕ, ◌+◌, ◌≤◌, true, false, List, [], ◌∷◌, length, refl, sym, ◌∙◌, ap, arith, append-nil}
+use Rattle.std.proofs.Common.{◌≡◌, ℕ, ◌≤◌, true, false, List, length, refl, sym, ◌∙◌, ap, arith, append-nil}
 use Rattle.std.specs.Prelude.{Option, Some, None, option_and_then, option_map, if◌then◌else◌}
 use Rattle.std.specs.FinMap.{same_map}
 use Rattle.std.proofs.lemmas.List.Elements.{All-nil}
@@ -17,10 +17,8 @@ use Rattle.fx_history.proofs.Histories.{legal_none}
 use Rattle.fx_history.proofs.Settling.{first_none}
 use Rattle.fx_jblock.specs.declared.Start.{Start}
 use Rattle.fx_journal.specs.declared.stream.StreamBlock.{StreamBlock}
-use Rattle.fx_journal.specs.Stream.{IsSeries, place_after}
 use Rattle.fx_record.specs.Commits.{IsCommit}
 use Rattle.fx_super.specs.Super.{Fields}
-use Rattle.fx_log.specs.Chosen.{start_of}
 use Rattle.fx_image.specs.Standing.{Transactions, StandsFor, items_after, lists_of}
 use Rattle.fx_log.proofs.LogRaised.{log-new}
 use Rattle.fx_image.specs.Journal.{IsJournal, IsReading, new_journal}

@@ -1,8 +1,8 @@
 -- The same of what a disk tells, or does not tell, over calls that were made or not.
 use Rattle.std.proofs.Common.{◌≡◌, ℕ, ◌+◌, List, ◌++◌, Bool, true, length, sym, subst, ⊎_elim}
-use Rattle.std.specs.Prelude.{Option, Some, None, IfSome, slice_get}
+use Rattle.std.specs.Prelude.{Option, Some, IfSome, slice_get}
 use Rattle.fx_disk.specs.Record.{DiskRecord}
-use Rattle.fx_disk.specs.Steps.{IsRecordOf, Writes, Flushes, MadeOrNot, with_write, with_flush}
+use Rattle.fx_disk.specs.Steps.{IsRecordOf, Writes, Flushes, MadeOrNot, with_write}
 use Rattle.fx_disk.proofs.Told.{made-write, made-flush, told-map, told-both, told-write, told-flush}
 use Rattle.fx_item.specs.Item.{PlainItem}
 use Rattle.fx_plain.specs.Tree.{Tree}
@@ -18,11 +18,10 @@ use Rattle.fx_log.specs.Chosen.{next_generation, start_of}
 use Rattle.fx_log.specs.Raising.{ChoosesNext}
 use Rattle.fx_log.specs.Ring.{AreClosed, place_in, bytes_in}
 use Rattle.fx_image.specs.Standing.{Transactions}
-use Rattle.fx_image.specs.Prefix.{KeepsPrefix, KeepsAll}
+use Rattle.fx_image.specs.Prefix.{KeepsAll}
 use Rattle.fx_log.specs.Log.{IsWrittenOut}
 use Rattle.fx_image.specs.Journal.{Journal, IsJournal, IsNextCommit, HasJournal, IsOnDisk, new_journal, with_commit, with_closed, with_written, with_settled}
 use Rattle.fx_disk.proofs.Made.{good-made}
-use Rattle.fx_log.proofs.SuperTold.{told-raised}
 use Rattle.fx_image.proofs.PrefixNow.{keeps-all}
 use Rattle.fx_image.proofs.JournalCalls.{disk-commit, disk-close, disk-tried, disk-written, disk-flush, disk-settled}
 use Rattle.fx_image.proofs.MountCalls.{begun-read, begun-raise, begun-flush}

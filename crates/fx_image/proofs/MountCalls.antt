@@ -1,5 +1,5 @@
 -- A disk that is being mounted: nothing was committed yet.
-use Rattle.std.proofs.Common.{◌≡◌, ℕ, ◌+◌, Bool, true, List, [], ◌++◌, length, set, subst, arith, append-nil, inl, inr}
+use Rattle.std.proofs.Common.{◌≡◌, ℕ, ◌+◌, Bool, List, [], ◌++◌, length, set, subst, arith, append-nil, inl, inr}
 use Rattle.fx_disk.specs.Record.{DiskRecord, LeftNow, cell_after, cell_now}
 use Rattle.fx_disk.specs.Began.{BeganAs}
 use Rattle.fx_disk.specs.Steps.{IsRecordOf, with_write, with_flush}

@@ -1,8 +1,7 @@
 -- A disk whose mount was not finished, whatever tree it stood for.
-use Rattle.std.proofs.Common.{◌≡◌, ℕ, ◌<◌, false, List, [], length, sym, subst, ◌∙◌, ap, arith}
+use Rattle.std.proofs.Common.{◌≡◌, ℕ, List, [], length, sym, subst, ◌∙◌, ap, arith}
 use Rattle.std.specs.Prelude.{Option, IfSome}
-use Rattle.std.proofs.Math.Seq.{ext_get_or}
-use Rattle.fx_disk.specs.Record.{DiskRecord, Cell, LeftNow, cell_after, cell_now}
+use Rattle.fx_disk.specs.Record.{DiskRecord, cell_after}
 use Rattle.fx_disk.specs.Steps.{IsRecordOf}
 use Rattle.fx_disk.specs.Always.{Always}
 use Rattle.fx_disk.proofs.Told.{told-map}
@@ -13,13 +12,12 @@ use Rattle.fx_jblock.specs.declared.Start.{Start}
 use Rattle.fx_journal.specs.declared.stream.StreamBlock.{StreamBlock}
 use Rattle.fx_super.specs.Super.{Fields}
 use Rattle.fx_image.specs.Standing.{Transactions, IsImage, StandsFor, HasAmpleRoom, items_after, kept}
-use Rattle.fx_disk.specs.Began.{BeganAs}
 use Rattle.fx_log.specs.Ring.{BeganWith}
 use Rattle.fx_image.specs.Prefix.{IsPrefix, Began, KeepsPrefix}
 use Rattle.fx_image.specs.Journal.{HasJournal, IsReading, new_journal}
 use Rattle.fx_image.proofs.JournalStart.{stands-bare}
 use Rattle.fx_image.proofs.PrefixNow.{began-super, began-txns}
-use Rattle.fx_disk.proofs.Began.{cell_after-now, left-first}
+use Rattle.fx_disk.proofs.Began.{left-first}
 use Rattle.fx_image.proofs.PrefixCalls.{StandsByChance, keeps-start}
 
 -- ---- nothing was written

@@ -1,17 +1,12 @@
 -- An image stands for one tree.
-use Rattle.std.proofs.Common.{◌≡◌, ℕ, List, sym, subst, arith}
+use Rattle.std.proofs.Common.{◌≡◌, ℕ, List, sym, subst}
 use Rattle.fx_plain.specs.Tree.{Tree}
 use Rattle.fx_namespace.specs.Trees.{IsTreeOf, bare}
 use Rattle.fx_namespace.proofs.Trees.{one_tree}
-use Rattle.fx_jblock.specs.declared.Start.{Start}
 use Rattle.fx_journal.specs.declared.stream.StreamBlock.{StreamBlock}
-use Rattle.fx_journal.specs.Stream.{IsStream}
-use Rattle.fx_journal.proofs.Runs.{one_stream}
 use Rattle.fx_record.specs.Txns.{IsTxns}
 use Rattle.fx_record.proofs.Fronts.{one_answer}
-use Rattle.fx_super.specs.Super.{Fields, KeepsRules}
-use Rattle.fx_super.proofs.Chosen.{one_chosen}
-use Rattle.fx_log.specs.Chosen.{ChoosesSuper, start_of}
+use Rattle.fx_super.specs.Super.{Fields}
 use Rattle.fx_image.specs.Standing.{Transactions, IsImage, items_after, stream_pieces}
 use Rattle.fx_log.proofs.SuperChoice.{one_super, rules_chosen, stream_chosen}
 

@@ -4,11 +4,11 @@ use Rattle.std.specs.Prelude.{Option, None, Some, All, Result, Ok, option_map}
 use Rattle.std.specs.FinMap.{get}
 use Rattle.std.specs.Result.{result_unwrap_or}
 use Rattle.std.proofs.lemmas.List.{same_from_push}
-use Rattle.fx_item.specs.Item.{PlainItem, IsItem}
+use Rattle.fx_item.specs.Item.{PlainItem, IsNameItem}
 use Rattle.fx_item.specs.Look.{ItemMap, after, after_all, next_id, next_store}
 use Rattle.fx_item.specs.Name.{is_name}
 use Rattle.fx_item.specs.Order.{is_ascending}
-use Rattle.fx_plain.specs.Bare.{IsMade, IsWritten, bare, bare_node}
+use Rattle.fx_plain.specs.Bare.{IsPlaced, IsWritten, bare, bare_node}
 use Rattle.fx_plain.specs.Node.{Attributes, Node, Dir, File, empty_dir, empty_file, no_contents}
 use Rattle.fx_plain.specs.Table.{do_all, do_step, go_on}
 use Rattle.fx_plain.specs.Tree.{IsTree, Tree}
@@ -25,7 +25,6 @@ use Rattle.fx_namespace.specs.Trees.{IsTreeOf, node_of}
 use Rattle.fx_namespace.specs.Trees as holdings
 use Rattle.fx_namespace.specs.Commits.{IsBelow, IsFileAt, IsFreePlace, IsNextNode, LeadsAlso, new_items, written_items}
 use Rattle.fx_namespace.proofs.Commits.{new_are_items, new_ascends, new_leads, new_numbers, new_stands, new_tree, node_below, root_way, written_are_items, written_ascends, written_leads, written_numbers, written_stands, written_tree}
-use Rattle.fx_namespace.proofs.Items.{below_after, below_more}
 use Rattle.fx_namespace.proofs.Trees.{is_tree}
 use Rattle.fx_history.specs.declared.entry.Entry.{Entry}
 use Rattle.fx_history.specs.History.{Legal, tree_after, tree_at}
@@ -52,7 +51,7 @@ tree_of_bare t k = record {
 
 -- the place that a step found is free in the bare tree
 place_of : (m : ItemMap) (t : Tree) (above : List (List ℕ)) (name : List ℕ) (parent : NodeId) (node : Node) (new : Tree) → length above < MAX_NAMES → node_at m above ≡ Some parent
-    → IsMade t (above ++ name ∷ []) node new → IsFreePlace m (bare t) above parent name
+    → IsPlaced t (above ++ name ∷ []) node new → IsFreePlace m (bare t) above parent name
 place_of m t above name parent node new depth way made =
     let same : made.above ≡ above = sym (same_from_push above made.above name made.name made.path_is).0 in
     record {
@@ -64,7 +63,7 @@ place_of m t above name parent node new depth way made =
     }
 
 module _ (m : ItemMap) (t new : Tree) (above : List (List ℕ)) (name : List ℕ) (parent node : NodeId) (kind : Kind) (id store : ℕ)
-    (s : StandsFor m (bare t)) (b : IsBelow m id store) (depth : length above < MAX_NAMES) (way : node_at m above ≡ Some parent) (next : IsNextNode parent node kind id store) (made : IsMade t (above ++ name ∷ []) (node_of holdings.bare node kind) new) where
+    (s : StandsFor m (bare t)) (b : IsBelow m id store) (depth : length above < MAX_NAMES) (way : node_at m above ≡ Some parent) (next : IsNextNode parent node kind id store) (made : IsPlaced t (above ++ name ∷ []) (node_of holdings.bare node kind) new) where
   place : IsFreePlace m (bare t) above parent name
   place = place_of m t above name parent (node_of holdings.bare node kind) new depth way made
 
@@ -103,11 +102,11 @@ Done t step = (answer : Answer) × ((do_step t step).0 ≡ Ok answer)
 abbrev new_of : Tree → Step → Tree
 new_of t step = (do_step t step).1
 
-made_dir : (t : Tree) (path : List (List ℕ)) (step : Step) → step ≡ Mkdir path → Done t step → IsMade t path empty_dir (new_of t step)
-made_dir t path step e done = subst (λ (x : Step). Done t x → IsMade t path empty_dir (new_of t x)) (sym e) (λ d. mkdir_made t path d.0 d.1) done
+made_dir : (t : Tree) (path : List (List ℕ)) (step : Step) → step ≡ Mkdir path → Done t step → IsPlaced t path empty_dir (new_of t step)
+made_dir t path step e done = subst (λ (x : Step). Done t x → IsPlaced t path empty_dir (new_of t x)) (sym e) (λ d. mkdir_made t path d.0 d.1) done
 
-made_file : (t : Tree) (path : List (List ℕ)) (step : Step) → step ≡ Create path → Done t step → IsMade t path empty_file (new_of t step)
-made_file t path step e done = subst (λ (x : Step). Done t x → IsMade t path empty_file (new_of t x)) (sym e) (λ d. (create_made t path d.0 d.1).made) done
+made_file : (t : Tree) (path : List (List ℕ)) (step : Step) → step ≡ Create path → Done t step → IsPlaced t path empty_file (new_of t step)
+made_file t path step e done = subst (λ (x : Step). Done t x → IsPlaced t path empty_file (new_of t x)) (sym e) (λ d. (create_made t path d.0 d.1).made) done
 
 made_text : (t : Tree) (path : List (List ℕ)) (at : ℕ) (text : List ℕ) (step : Step) → IsTree t → step ≡ Write path at text → Done t step → IsWritten t path at text (new_of t step)
 made_text t path at text step k e done = subst (λ (x : Step). Done t x → IsWritten t path at text (new_of t x)) (sym e) (λ d. write_made t path at text d.0 k d.1) done
@@ -167,18 +166,18 @@ module _ (m : ItemMap) (step : Step) (items : List PlainItem) (id store : ℕ) (
   step_ascends (OfWrite path at text node e way is) = subst (λ (xs : List PlainItem). IsTrue (is_ascending xs)) (sym is) (written_ascends node)
 
   new_items_are : (above : List (List ℕ)) (name : List ℕ) (parent node : NodeId) (kind : Kind) → IsTrue (is_name name) → id < 2 ^ 64 → store < 2 ^ 32 → node_at m above ≡ Some parent
-      → IsNextNode parent node kind id store → All IsItem (new_items parent name node kind)
+      → IsNextNode parent node kind id store → All IsNameItem (new_items parent name node kind)
   new_items_are above name parent node kind named i k way next =
       let low = node_below m id store b above parent way in
       let fits : (node.id < 2 ^ 64) × (node.store < 2 ^ 32) = next_fits parent node kind id store low.0 low.1 i k next in
       new_are_items parent name node kind (omega arith) (omega arith) fits.0 fits.1 named
 
-  pub step_are_items : id < 2 ^ 64 → store < 2 ^ 32 → AreItemsOf m id store step items → All IsItem items
-  step_are_items i k (OfDirectory above name parent node e named depth way next is) = subst (All IsItem) (sym is) (new_items_are above name parent node kinds.Dir named i k way next)
-  step_are_items i k (OfFile above name parent node e named depth way next is) = subst (All IsItem) (sym is) (new_items_are above name parent node kinds.File named i k way next)
+  pub step_are_items : id < 2 ^ 64 → store < 2 ^ 32 → AreItemsOf m id store step items → All IsNameItem items
+  step_are_items i k (OfDirectory above name parent node e named depth way next is) = subst (All IsNameItem) (sym is) (new_items_are above name parent node kinds.Dir named i k way next)
+  step_are_items i k (OfFile above name parent node e named depth way next is) = subst (All IsNameItem) (sym is) (new_items_are above name parent node kinds.File named i k way next)
   step_are_items i k (OfWrite path at text node e way is) =
       let low = node_below m id store b path node way in
-      subst (All IsItem) (sym is) (written_are_items node (omega arith) (omega arith))
+      subst (All IsNameItem) (sym is) (written_are_items node (omega arith) (omega arith))
 
   -- the next numbers rise by at most one
   abbrev RiseByOne : List PlainItem → Type 0

@@ -1,5 +1,5 @@
--- The journal of a mounted disk as plain data: its log, what it began with, and the commits made since;
--- what it keeps, and what the disk has of it.
+-- The journal of a mounted disk as plain data: its log, what it began with, and the commits made
+-- since; what it keeps, and what the disk has of it.
 use Rattle.std.specs.Prelude.{◌≡◌, ℕ, ◌+◌, ◌^◌, ◌≤◌, ◌<◌, All, List, [], ◌∷◌, ◌++◌, length, take}
 use Rattle.fx_item.specs.Item.{PlainItem}
 use Rattle.fx_item.specs.Look.{next_id, next_store, next_id_after, next_store_after}
@@ -21,7 +21,8 @@ use Rattle.fx_image.specs.Standing.{Transactions, HasSessionRoom, kept, lists_of
 use Rattle.fx_image.specs.Replay.{Replays}
 use Rattle.fx_image.specs.Prefix.{KeepsPrefix}
 
--- What an image stood for at the mount: its tree, the number of its last commit, and its transactions.
+-- What an image stood for at the mount: its tree, the number of its last commit, and its
+-- transactions.
 pub record Opening : Type 0 where
   pub tree : Tree
   pub base : ℕ
@@ -49,7 +50,8 @@ new_journal size from tree base super read place txns = record {
   commits = record { history = []; records = []; marks = 0 };
 }
 
--- One more commit. Its record bytes closed these blocks, and left this chain and this unfinished block.
+-- One more commit. Its record bytes closed these blocks, and left this chain and this unfinished
+-- block.
 abbrev pub more_commits : Commits → Entry → List PlainItem → Commits
 more_commits c entry items =
     record c { history = c.history ++ entry ∷ []; records = c.records ++ items ∷ [] }
@@ -60,8 +62,8 @@ with_commit j entry items closed chain text = record j {
   commits = more_commits j.commits entry items;
 }
 
--- The unfinished block is closed as it is, where it holds bytes: further blocks, the chain after them, and
--- the record bytes that are left.
+-- The unfinished block is closed as it is, where it holds bytes: further blocks, the chain after
+-- them, and the record bytes that are left.
 abbrev pub with_closed : Journal → List Queued → ℕ → List ℕ → Journal
 with_closed j closed chain text = record j { log = closed_log j.log closed chain text }
 
@@ -155,8 +157,8 @@ commit_bytes entry items = record_bytes (TransactionRecord entry.number items)
 
 -- ---- what the disk has of it
 
--- This record of the disk has the journal's log, and at every moment since the mount every image left that
--- is not there by chance stands for a prefix of the history.
+-- This record of the disk has the journal's log, and at every moment since the mount every image
+-- left that is not there by chance stands for a prefix of the history.
 pub record HasJournal (j : Journal) (r : DiskRecord) : Type 0 where
   pub log : HasLog j.log r
   pub keeps : KeepsPrefix j.log.size j.log.from j.opening.tree j.opening.base j.commits.history r

@@ -11,8 +11,9 @@ use Rattle.fx_log.specs.Chance.{NotByChance}
 use Rattle.fx_disk.specs.Began.{BeganAs}
 use Rattle.fx_image.specs.Standing.{Transactions, IsImage, HasSessionRoom, HasAmpleRoom, kept}
 
--- The image stands for the tree after a prefix of the history, without what files hold. The prefix has each
--- entry that was settled by this moment. Where there was ample room, it can be mounted again.
+-- The image stands for the tree after a prefix of the history, without what files hold. The prefix
+-- has each entry that was settled by this moment. Where there was ample room, it can be mounted
+-- again.
 pub record IsPrefix (size : ℕ) (ample : Type 0) (tree : Tree) (base : ℕ) (history : List Entry)
     (m : ℕ) (image : List (List ℕ)) : Type 0 where
   pub super : Fields
@@ -24,15 +25,16 @@ pub record IsPrefix (size : ℕ) (ample : Type 0) (tree : Tree) (base : ℕ) (hi
   pub image_is : IsImage size image super txns (bare (tree_at tree history (kept super txns)))
   pub room : ample → HasSessionRoom super txns
 
--- The disk began as an image with this superblock and these transactions, which stands for the tree.
+-- The disk began as an image with this superblock and these transactions, which stands for the
+-- tree.
 pub record Began (size from base : ℕ) (tree : Tree) (r : DiskRecord) (image : List (List ℕ))
     (f : Fields) (txns : Transactions) : Type 0 where
   pub begins : BeganAs r from image
   pub image_is : IsImage size image f txns tree
   pub base_is : kept f txns ≡ base
 
--- At every moment from there on, every image left that is not there by chance stands for a prefix of the
--- history of commits.
+-- At every moment from there on, every image left that is not there by chance stands for a prefix
+-- of the history of commits.
 pub record KeepsPrefix (size from : ℕ) (tree : Tree) (base : ℕ) (history : List Entry)
     (r : DiskRecord) : Type 0 where
   pub since : from ≤ length r.calls

@@ -15,9 +15,9 @@ use Rattle.fx_history.specs.declared.entry.Entry.{Entry}
 use Rattle.fx_history.specs.History.{tree_at}
 use Rattle.fx_image.specs.Standing.{StandsFor, Transactions, lists_of}
 
--- One list of items for each entry of the history: after the transactions, which lead up to the number
--- `base`, and the lists of the first k entries, the items stand for the tree after these entries, without
--- what files hold.
+-- One list of items for each entry of the history: after the transactions, which lead up to the
+-- number `base`, and the lists of the first k entries, the items stand for the tree after these
+-- entries, without what files hold.
 pub record Replays (tree : Tree) (base : ℕ) (txns : Transactions) (history : List Entry)
     (records : List (List PlainItem)) : Type 0 where
   pub one_each : length records ≡ length history
@@ -25,8 +25,8 @@ pub record Replays (tree : Tree) (base : ℕ) (txns : Transactions) (history : L
       StandsFor (after_all (lists_of txns ++ take k records))
       (bare (tree_at tree history (base + k)))
 
--- The items of a step that is done, where these are the next id and the next store: those of a new node
--- below the node that the path above leads to, or that of the file that the path leads to.
+-- The items of a step that is done, where these are the next id and the next store: those of a new
+-- node below the node that the path above leads to, or that of the file that the path leads to.
 pub data AreItemsOf (m : ItemMap) (id store : ℕ) (step : Step) (items : List PlainItem)
     : Type 0 where
   OfDirectory : (above : List (List ℕ)) (name : List ℕ) (parent node : NodeId) →

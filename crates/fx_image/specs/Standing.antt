@@ -36,8 +36,8 @@ pub record StandsFor (items : ItemMap) (tree : Tree) : Type 0 where
 abbrev pub kept : Fields → Transactions → ℕ
 kept f txns = f.base + length txns
 
--- The image of a disk of so many blocks has this superblock chosen and these transactions in its journal,
--- and stands for this tree.
+-- The image of a disk of so many blocks has this superblock chosen and these transactions in its
+-- journal, and stands for this tree.
 pub record IsImage (size : ℕ) (image : List (List ℕ)) (f : Fields) (txns : Transactions)
     (tree : Tree) : Type 0 where
   pub chosen : ChoosesSuper f image

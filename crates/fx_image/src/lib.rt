@@ -1,11 +1,11 @@
-//! What an image stands for: which superblock is chosen in it, what of a stop's images is not there by
-//! chance, and what the commits of a session make of it.
+//! What an image stands for: which superblock is chosen in it, what of a stop's images is not there
+//! by chance, and what the commits of a session make of it.
 //!
 //! Definitions and lemmas alone: the functions do nothing.
 #![tactic(auto)]
 
 ghost use Rattle.std.specs.Prelude.{◌≡◌, ◌++◌, ◌∷◌, ◌+◌, ◌<◌, ◌≤◌, ◌^◌, [], ℕ, All, IsTrue, List, Ok, length, take};
-ghost use Rattle.fx_item.specs.Item.{IsItem, PlainItem};
+ghost use Rattle.fx_item.specs.Item.{IsNameItem, PlainItem};
 ghost use Rattle.fx_item.specs.Look.{ItemMap, after_all, next_id, next_store};
 ghost use Rattle.fx_item.specs.Order.{is_ascending};
 ghost use Rattle.fx_plain.specs.Bare.{bare};
@@ -20,10 +20,10 @@ ghost use Rattle.fx_image.specs.Replay.{AreItemsOf, Replays};
 ghost use Rattle.fx_image.specs.Standing.{IsImage, StandsFor, Transactions, items_after, lists_of};
 ghost use Rattle.fx_super.specs.Super.{Fields};
 
-/// The items of commits replay a history: none replay the empty one, the items of a step that is done
-/// replay one entry more, and they still do where entries are settled. Transactions that keep the first
-/// commits stand for the tree after these. The items of a step are those of a record, and raise each
-/// next number by one at most.
+/// The items of commits replay a history: none replay the empty one, the items of a step that is
+/// done replay one entry more, and they still do where entries are settled. Transactions that keep
+/// the first commits stand for the tree after these. The items of a step are those of a record, and
+/// raise each next number by one at most.
 pub fn replay_laws()
     ensures none { (tree : Tree) (base : ℕ) (txns : Transactions) →
         StandsFor (items_after txns) tree → tree ≡ bare tree → Replays tree base txns [] [] }
@@ -47,7 +47,7 @@ pub fn replay_laws()
         StandsFor (items_after (txns ++ more)) (bare (tree_at tree history (base + k))) }
     ensures items { (m : ItemMap) (step : Step) (items : List PlainItem) (id store : ℕ) →
         IsBelow m id store → id < 2 ^ 64 → store < 2 ^ 32 → AreItemsOf m id store step items →
-        All IsItem items }
+        All IsNameItem items }
     ensures ascending { (m : ItemMap) (step : Step) (items : List PlainItem) (id store : ℕ) →
         IsBelow m id store → AreItemsOf m id store step items → IsTrue (is_ascending items) }
     ensures rise { (m : ItemMap) (step : Step) (items : List PlainItem) (id store : ℕ) →
@@ -55,8 +55,8 @@ pub fn replay_laws()
         (next_id id items ≤ id + 1) × (next_store store items ≤ store + 1) }
 {}
 
-/// An image stands for one tree at most: it has one superblock chosen, one list of transactions, and one
-/// tree that these make.
+/// An image stands for one tree at most: it has one superblock chosen, one list of transactions,
+/// and one tree that these make.
 pub fn image_laws()
     ensures superblock { (size : ℕ) (image : List (List ℕ)) (f g : Fields)
         (xs ys : Transactions) (t u : Tree) →

@@ -1,20 +1,23 @@
 -- What the blocks of a stream hold, or why they are refused.
-use Rattle.std.proofs.Common.{◌≡◌, ◌≢◌, ℕ, ◌+◌, ◌*◌, ◌<◌, ◌≤◌, ◌^◌, List, [], ◌∷◌, length, length-append, refl, sym, ap, subst, ◌∙◌, arith}
+use Rattle.std.proofs.Common.{◌≡◌, ◌≢◌, ℕ, ◌*◌, ◌≤◌, List, [], ◌∷◌, length, length-append, refl, sym, subst, arith}
 use Rattle.std.specs.Prelude.{IfSome}
 use Rattle.std.proofs.Math.Path.{fun_ext}
-use Rattle.fx_item.specs.Look.{ItemMap, next_id_after, next_store_after, value_in}
+use Rattle.fx_item.specs.Look.{ItemMap, value_in}
 use Rattle.fx_plain.specs.Tree.{Tree}
 use Rattle.fx_namespace.specs.Nodes.{NodeId, Stands}
 use Rattle.fx_namespace.specs.Trees.{IsTreeOf, bare}
 use Rattle.fx_namespace.specs.Wrong.{IsLeastWrong}
 use Rattle.fx_nodes.specs.Table.{PlainTable}
+use Rattle.fx_nodes.specs.Tree.{AreTreeNodes}
 use Rattle.fx_super.specs.Super.{Fields}
+use Rattle.fx_super.specs.declared.superblock.TheConstants.{MAX_RING}
 use Rattle.fx_disk.specs.Seen.{DiskSeen}
 use Rattle.fx_jblock.specs.declared.Start.{Start}
+use Rattle.fx_jblock.specs.declared.TheConstants.{RECORD_BYTES}
 use Rattle.fx_journal.specs.Stream.{IsSeries, place_after}
 use Rattle.fx_journal.specs.declared.stream.StreamBlock.{StreamBlock}
-use Rattle.fx_record.specs.Txns.{IsTxns, all_bytes, txns_of}
-use Rattle.fx_image.specs.Standing.{HasSessionRoom, StandsFor, Transactions, items_after, kept, lists_of, stream_pieces}
+use Rattle.fx_record.specs.Txns.{IsTxns, all_bytes}
+use Rattle.fx_image.specs.Standing.{HasSessionRoom, StandsFor, Transactions, items_after, stream_pieces}
 use Rattle.fx_log.specs.Chosen.{ChoosesSuper, start_of}
 use Rattle.fx_mount.specs.declared.fault.MountFault.{MountFault}
 use Rattle.fx_mount.specs.declared.fault.MountFault.TheVariants as faults
@@ -22,10 +25,18 @@ use Rattle.fx_mount.specs.declared.fault.MountFault.TheVariants.{BadTree, Crampe
 use Rattle.fx_mount.specs.Found.{CanGoOn, HasReadWell, HasStream, HasSuper, IsMountCause, IsRefused}
 use Rattle.fx_store.specs.Nodes.{NodeTable}
 use Rattle.fx_store.specs.Session.{KnowsNodes}
-use Rattle.fx_mount.specs.Reading.{IsGathered, IsReadFault, IsStreamOf}
+use Rattle.fx_mount.specs.Reading.{HoldsContents, IsGathered, IsReadFault, IsStreamOf}
 use Rattle.fx_store.specs.Opening.{IsRead}
 use Rattle.fx_store.specs.declared.opening.Contents.{Contents}
 use Rattle.fx_store.proofs.Keeps.{if-both}
+use Rattle.fx_mount.specs.Growing.{HasFewNodes}
+use Rattle.fx_mount.proofs.NodeCount.{few_nodes}
+
+-- a stream has few record bytes
+pub series_short : (generation : ℕ) (start next : Start) (blocks : List StreamBlock) → IsSeries generation start blocks next → length (all_bytes (stream_pieces blocks)) ≤ RECORD_BYTES * length blocks
+series_short generation start next [] h = omega arith
+series_short generation start next (b ∷ bs) h =
+    omega (arith, length-append b.records (all_bytes (stream_pieces bs)), h.0.room, series_short generation (place_after start b) next bs h.1)
 
 module _ (f : Fields) (blocks : List StreamBlock) (txns : Transactions) (table : PlainTable) (are : IsTxns f.base (stream_pieces blocks) txns) (gathered : IsGathered f txns table) where
   same_items : value_in table.items ≡ items_after txns
@@ -33,6 +44,11 @@ module _ (f : Fields) (blocks : List StreamBlock) (txns : Transactions) (table :
 
   pub stands_for : (tree : Tree) → Stands (value_in table.items) → IsTreeOf (value_in table.items) bare tree → StandsFor (items_after txns) tree
   stands_for tree stands is = subst (λ (m : ItemMap). StandsFor m tree) same_items (record { stands = stands; tree_is = is })
+
+  pub few_after : (generation : ℕ) (start next : Start) → IsSeries generation start blocks next → length blocks ≤ MAX_RING → Stands (value_in table.items) → HasFewNodes (value_in table.items)
+  few_after generation start next series few stands nodes of =
+      let least = few_nodes f.base (stream_pieces blocks) txns nodes are (subst Stands same_items stands) (subst (λ (m : ItemMap). AreTreeNodes m nodes) same_items of) in
+      omega (arith, least, series_short generation start next blocks series, few)
 
   pub knows_after : (nodes : NodeTable) → KnowsNodes (value_in table.items) nodes → KnowsNodes (items_after txns) nodes
   knows_after nodes knows = subst (λ (m : ItemMap). KnowsNodes m nodes) same_items knows
@@ -63,12 +79,6 @@ module _ (f : Fields) (blocks : List StreamBlock) (txns : Transactions) (table :
       ),
     )
 
--- a stream has few record bytes
-pub series_short : (generation : ℕ) (start next : Start) (blocks : List StreamBlock) → IsSeries generation start blocks next → length (all_bytes (stream_pieces blocks)) ≤ 4064 * length blocks
-series_short generation start next [] h = omega arith
-series_short generation start next (b ∷ bs) h =
-    omega (arith, length-append b.records (all_bytes (stream_pieces bs)), h.0.room, series_short generation (place_after start b) next bs h.1)
-
 -- a fault of what was read is a cause
 pub cause_read : (before after : DiskSeen) (fault : MountFault) → fault ≢ faults.Device → HasReadWell before after → IfSome before.told (λ r. IsReadFault before.size r.contents fault) → IsMountCause before after fault
 cause_read before after faults.NoSuper other well h = (well, h)
@@ -90,23 +100,22 @@ refused_told seen f blocks next fault on chosen stream refused =
 
 -- what was read of the stream is what a store begins with
 pub read_told : (seen : DiskSeen) (f : Fields) (blocks : List StreamBlock) (next : Start) (c : Contents) → CanGoOn seen.size f → IfSome seen.told (IsStreamOf f blocks next) → IsSeries f.generation (start_of f) blocks next → length blocks ≤ f.ring
-    → (c.closed ≡ length blocks) × (c.next ≡ next) → IsTxns f.base (stream_pieces blocks) (txns_of c.txns) → kept f (txns_of c.txns) ≡ c.base → HasSessionRoom f (txns_of c.txns)
-    → StandsFor (items_after (txns_of c.txns)) c.tree → KnowsNodes (items_after (txns_of c.txns)) c.nodes
-    → c.next_id ≡ next_id_after f.next_id (lists_of (txns_of c.txns)) → c.next_store ≡ next_store_after f.next_store (lists_of (txns_of c.txns)) → IsRead seen f c
-read_told seen f blocks next c on stream series few same txns base room stands nodes next_id next_store = record {
+    → HoldsContents f blocks next c → IsRead seen f c
+read_told seen f blocks next c on stream series few h = record {
   blocks = blocks;
-  closed_is = sym same.0;
+  closed_is = sym h.closed;
   few = few;
   reading = record {
-    head = record { rules = on.rules; blocks = on.blocks; series = subst (λ (s : Start). IsSeries f.generation (start_of f) blocks s) (sym same.1) series };
+    head = record { rules = on.rules; blocks = on.blocks; series = subst (λ (s : Start). IsSeries f.generation (start_of f) blocks s) (sym h.next) series };
     layers = on.layers;
-    txns_are = txns;
-    base_is = base;
-    room = room;
+    txns_are = h.txns;
+    base_is = h.base;
+    room = h.room;
   };
-  stands = stands;
-  stream = subst (λ (s : Start). IfSome seen.told (IsStreamOf f blocks s)) (sym same.1) stream;
-  knows = nodes;
-  next_id = next_id;
-  next_store = next_store;
+  stands = h.stands;
+  small = h.small;
+  stream = subst (λ (s : Start). IfSome seen.told (IsStreamOf f blocks s)) (sym h.next) stream;
+  knows = h.nodes;
+  next_id = h.next_id;
+  next_store = h.next_store;
 }

@@ -1,13 +1,12 @@
 -- What was found in the two places of superblocks.
-use Rattle.std.proofs.Common.{◌≡◌, ℕ, ◌≤◌, ◌<◌, List, [], ◌∷◌, ◌++◌, length, get_or, Bool, true, false, refl, sym, subst, ap, arith}
+use Rattle.std.proofs.Common.{◌≡◌, ℕ, ◌≤◌, ◌<◌, List, [], ◌∷◌, ◌++◌, length, get_or, Bool, true, false, refl, subst, arith}
 use Rattle.std.specs.Prelude.{Result, Ok, Err, Option, Some, None, IfSome, nat_le, if◌then◌else◌}
 use Rattle.std.proofs.lemmas.Bool.{leb-true, leb-false}
-use Rattle.fx_super.specs.Super.{Fields, IsSuper, IsVersion, Decoded, fields_of}
+use Rattle.fx_super.specs.Super.{Fields, IsSuper, Decoded, fields_of}
 use Rattle.fx_super.specs.Chosen.{IsChosen, HasNoChosen, choice}
 use Rattle.fx_super.specs.declared.superblock.Super.{Super}
 use Rattle.fx_super.specs.declared.decode.SuperFault.{SuperFault}
 use Rattle.fx_super.specs.declared.decode.SuperFault.TheVariants.{Bad, Version}
-use Rattle.fx_super.specs.declared.choice.Which.{Which}
 use Rattle.fx_super.specs.declared.choice.Which.TheVariants.{A, B}
 use Rattle.fx_disk.specs.Record.{DiskRecord}
 use Rattle.fx_disk.specs.Seen.{DiskSeen, HasOnlyRead}

@@ -17,7 +17,7 @@ use Rattle.fx_plain.proofs.Trees.{IsTree-do_step, IsTree-root, left}
 use Rattle.fx_namespace.specs.Nodes.{NodeId, Stands, child, node_at, object_kind, root_node}
 use Rattle.fx_namespace.specs.Trees.{IsTreeOf, bare, node_of, shown}
 use Rattle.fx_namespace.proofs.Trees.{shown_inner}
-use Rattle.fx_namespace.proofs.Walks.{child_value, ends_with, last_step, one_path, same_node}
+use Rattle.fx_namespace.proofs.Walks.{child_value, ends_with, last_step, one_path}
 use Rattle.fx_nodes.specs.declared.walk.TreeNode.{TreeNode}
 use Rattle.fx_nodes.specs.Tree.{AreTreeNodes}
 use Rattle.fx_mount.specs.Growing.{AreParentsFirst, HasNodes, HasPaths, MayStand, empty_node}

@@ -1,15 +1,15 @@
 -- What each call of a format adds.
-use Rattle.std.proofs.Common.{◌≡◌, ◌≢◌, ℕ, ◌+◌, ◌≤◌, ◌<◌, ◌⊎◌, inl, inr, ⊎_elim, List, [], ◌∷◌, ◌++◌, Bool, true, false, length, get_or, set, refl, sym, subst, ◌∙◌, ap, arith, zero, suc}
-use Rattle.std.specs.Prelude.{Option, Some, None, IfSome}
+use Rattle.std.proofs.Common.{◌≡◌, ◌≢◌, ℕ, ◌+◌, ◌≤◌, ◌<◌, ⊎_elim, List, [], true, false, get_or, set, refl, sym, subst, ◌∙◌, ap, arith}
+use Rattle.std.specs.Prelude.{Option, Some, None}
 use Rattle.std.proofs.lemmas.List.{get_or-set_other, get_or-set_same}
-use Rattle.std.proofs.lemmas.Bool.{cases_lt, cases_eq}
-use Rattle.fx_disk.specs.Record.{Call, Write, Flush, DiskRecord, Cell, cell_now}
-use Rattle.fx_disk.specs.Steps.{Holds, IsRecordOf, Writes, Flushes, MadeOrNot, with_call, with_write, with_flush}
+use Rattle.std.proofs.lemmas.Bool.{cases_eq}
+use Rattle.fx_disk.specs.Record.{Write, Flush, DiskRecord, Cell, cell_now}
+use Rattle.fx_disk.specs.Steps.{MayHold, IsRecordOf, Writes, Flushes, with_call, with_write, with_flush}
 use Rattle.fx_disk.specs.Settled.{HasNoFailed}
 use Rattle.fx_disk.proofs.Cells.{IsFixed, fixed-after, after-write, other-block, after-good_flush}
-use Rattle.fx_disk.specs.Longer.{BothTell, IsLonger}
+use Rattle.fx_disk.specs.Longer.{BothTell}
 use Rattle.fx_disk.proofs.Longer.{longer_same, longer_then, longer_call}
-use Rattle.fx_disk.proofs.Made.{IsTold, good-made}
+use Rattle.fx_disk.proofs.Made.{IsTold}
 use Rattle.fx_mount.specs.Formatted.{IsLaidOut}
 use Rattle.fx_base.specs.Blocks.{zero_bytes}
 use Rattle.fx_mount.specs.Laying.{IsLaid, KeepsFirst}
@@ -34,7 +34,7 @@ good-write s at bytes contents h b lt = by_block at b ((cell_now (with_call s (W
 
 module _ (size calls : ℕ) (r s : DiskRecord) (ok : IsRecordOf size calls s) (first : List ℕ) where
   -- the next block of zeros
-  pub laid-zeros : (at : ℕ) (held : List ℕ) → 1 ≤ at → at < size → Holds zero_bytes true held → IsLaid at first r s → IsLaid (at + 1) first r (with_write s at zero_bytes true held)
+  pub laid-zeros : (at : ℕ) (held : List ℕ) → 1 ≤ at → at < size → MayHold zero_bytes true held → IsLaid at first r s → IsLaid (at + 1) first r (with_write s at zero_bytes true held)
   laid-zeros at held least lt holds h = record {
     goes = longer_then r s (with_write s at zero_bytes true held) h.goes (longer_call s (Write at zero_bytes true) (set s.contents at held));
     first_is = let ne : 0 ≢ at = λ e. absurd (omega arith) in get_or-set_other s.contents at 0 held [] ne ∙ h.first_is;
@@ -46,7 +46,7 @@ module _ (size calls : ℕ) (r s : DiskRecord) (ok : IsRecordOf size calls s) (f
   }
 
   -- block 0
-  pub laid-first : (end : ℕ) (bytes held : List ℕ) → 1 ≤ end → 0 < size → Holds bytes true held → IsLaid end first r s → IsLaid end bytes r (with_write s 0 bytes true held)
+  pub laid-first : (end : ℕ) (bytes held : List ℕ) → 1 ≤ end → 0 < size → MayHold bytes true held → IsLaid end first r s → IsLaid end bytes r (with_write s 0 bytes true held)
   laid-first end bytes held least lt holds h = record {
     goes = longer_then r s (with_write s 0 bytes true held) h.goes (longer_call s (Write 0 bytes true) (set s.contents 0 held));
     first_is = get_or-set_same s.contents 0 held [] (omega (arith, ok.contents_size)) ∙ holds.good refl;

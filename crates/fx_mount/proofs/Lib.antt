@@ -7,3 +7,5 @@ pub mod Mountable
 pub mod Refusals
 pub mod Taken
 pub mod Formed
+pub mod NodeCount
+pub mod Calls

@@ -1,6 +1,6 @@
 -- A disk of which a mount has read all that a store begins with has an image to mount.
 use Rattle.std.proofs.Common.{◌≡◌, ℕ, ◌+◌, length, sym, ap, subst, arith}
-use Rattle.std.specs.Prelude.{IfSome, List, Option}
+use Rattle.std.specs.Prelude.{IfSome, Option}
 use Rattle.fx_disk.specs.Record.{DiskRecord}
 use Rattle.fx_disk.specs.Seen.{DiskSeen}
 use Rattle.fx_plain.specs.Tree.{Tree}
@@ -28,6 +28,7 @@ module _ (a b : DiskSeen) (size : b.size ≡ a.size) (told : b.told ≡ a.told) 
     few = is.few;
     reading = subst (λ (n : ℕ). IsReading n c.base f is.blocks c.next (txns_of c.txns)) size is.reading;
     stands = is.stands;
+    small = is.small;
     stream = subst (λ (o : Option DiskRecord). IfSome o (λ r. IsStream r.contents f.ring f.generation (start_of f) is.blocks c.next)) told is.stream;
     knows = is.knows;
     next_id = is.next_id;

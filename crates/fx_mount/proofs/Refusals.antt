@@ -1,12 +1,14 @@
 -- Why a disk was not mounted, over what was done to it before.
-use Rattle.std.proofs.Common.{◌≡◌, ◌≢◌, ◌∙◌, inl, inr, ⊎_elim, ℕ, ◌+◌, ◌≤◌, false, refl, sym, ap, subst, arith}
+use Rattle.std.proofs.Common.{◌≡◌, ◌∙◌, inl, inr, ⊎_elim, ℕ, refl, sym, ap, subst}
 use Rattle.std.specs.Prelude.{IfSome, Option}
 use Rattle.fx_base.specs.Causes.{Rose}
 use Rattle.fx_disk.specs.Record.{DiskRecord}
-use Rattle.fx_disk.specs.Seen.{DiskSeen, HasCalled, HasFailedLast, HasOnlyRead}
+use Rattle.fx_disk.specs.Seen.{DiskSeen, HasOnlyRead}
 use Rattle.fx_disk.specs.Steps.{IsRecordOf}
 use Rattle.fx_disk.proofs.Frames.{only_read_same, only_read_then}
 use Rattle.fx_store.specs.Mounted.{LeavesOpening}
+use Rattle.fx_store.specs.Opening.{IsBeginCause}
+use Rattle.fx_store.specs.declared.opening.NotBegun.{NotBegun}
 use Rattle.fx_store.specs.declared.opening.BeginFault.{BeginFault}
 use Rattle.fx_store.specs.declared.opening.BeginFault.TheVariants as begin
 use Rattle.fx_store.proofs.NewStores.{opening_untouched}
@@ -41,10 +43,10 @@ module _ (a b c : DiskSeen) (well : HasReadWell a b) where
   cause_earlier faults.Device h = (failed_earlier h.0, ⊎_elim (λ only. inl (only_read_then a b c well.only only)) (λ last. inr last) h.1)
   cause_earlier faults.OutOfMemory h = well_then a b c well h
 
-  -- why no store was begun after them
-  pub cause_begin : (fault : BeginFault) → (fault ≡ begin.OutOfMemory → c ≡ b) → (fault ≡ begin.Device → HasCalled b c false × HasFailedLast c) → IsMountCause a c (fault_of fault)
-  cause_begin begin.Device memory device = let h = device refl in (failed_earlier h.0.faults, inr h.1)
-  cause_begin begin.OutOfMemory memory device = subst (HasReadWell a) (sym (memory refl)) well
+-- why no store was begun after them
+pub cause_begin : (a b : DiskSeen) → HasReadWell a b → {Device : Type 0} (see : Device → DiskSeen) (disk : Device) → see disk ≡ b → (un : NotBegun Device) (fault : BeginFault) → IsBeginCause disk b un (see un.disk) fault → IsMountCause a (see un.disk) (fault_of fault)
+cause_begin a b well see disk is un begin.Device h = (failed_earlier a b (see un.disk) well h.0.faults, inr h.1)
+cause_begin a b well see disk is un begin.OutOfMemory h = subst (HasReadWell a) (sym is ∙ ap see (sym h)) well
 
 -- a disk that was only read keeps what it was
 pub opening_read : (a b : DiskSeen) → HasOnlyRead a b → IfSome b.told (IsRecordOf b.size b.calls) → LeavesOpening a.calls b

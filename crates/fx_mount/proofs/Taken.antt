@@ -1,5 +1,5 @@
 -- An image that a session can go on from is refused for nothing.
-use Rattle.std.proofs.Common.{◌≡◌, ◌≢◌, ◌⊎◌, inl, inr, ℕ, ◌+◌, ◌*◌, ◌<◌, ◌≤◌, List, [], ◌∷◌, ◌++◌, refl, sym, ap, subst, ◌∙◌, arith}
+use Rattle.std.proofs.Common.{◌≡◌, ◌⊎◌, inl, inr, ℕ, List, refl, sym, ap, subst, ◌∙◌, arith}
 use Rattle.std.specs.Prelude.{IfSome, Option, Some}
 use Rattle.fx_disk.specs.Record.{DiskRecord}
 use Rattle.fx_disk.specs.Seen.{DiskSeen}
@@ -8,13 +8,12 @@ use Rattle.fx_namespace.specs.Nodes.{Stands}
 use Rattle.fx_nodes.proofs.NothingWrong.{nothing_wrong}
 use Rattle.fx_history.specs.declared.entry.Entry.{Entry}
 use Rattle.fx_image.specs.Prefix.{IsPrefix}
-use Rattle.fx_jblock.specs.declared.Start.{Start}
 use Rattle.fx_journal.specs.declared.stream.StreamBlock.{StreamBlock}
-use Rattle.fx_record.specs.Txns.{IsTxns, IsBadRecord}
+use Rattle.fx_record.specs.Txns.{IsTxns}
 use Rattle.fx_record.proofs.Fronts.{not_both, one_answer}
 use Rattle.fx_super.specs.Super.{Fields}
 use Rattle.fx_super.specs.Chosen.{HasNoChosen}
-use Rattle.fx_log.specs.Chosen.{ChoosesSuper, layers_of, start_of}
+use Rattle.fx_log.specs.Chosen.{ChoosesSuper, layers_of}
 use Rattle.fx_image.specs.Standing.{HasSessionRoom, IsImage, Transactions, items_after, kept, stream_pieces}
 use Rattle.fx_image.proofs.OneImage.{images_same, images_super}
 use Rattle.fx_log.proofs.SuperChoice.{one_super, rules_chosen, stream_chosen}

@@ -1,5 +1,5 @@
 -- What a mount finds on a disk: a superblock that it can go on from, or why not.
-use Rattle.std.specs.Prelude.{◌≡◌, ◌≢◌, ◌⊎◌, ℕ, ◌+◌, ◌<◌, ◌≤◌, ◌^◌, Result, Ok, Err, List, [], ◌∷◌, ◌++◌, length, slice_index_or}
+use Rattle.std.specs.Prelude.{◌≡◌, ◌≢◌, ◌⊎◌, ℕ, ◌+◌, ◌<◌, ◌≤◌, Result, Ok, Err, List, [], ◌∷◌, length, slice_index_or}
 use Rattle.std.specs.Option.{IfSome}
 use Rattle.fx_base.specs.Causes.{Rose}
 use Rattle.fx_disk.specs.Record.{DiskRecord}
@@ -46,8 +46,8 @@ pub record HasSuper (size : ℕ) (image : List (List ℕ)) (f : Fields) : Type 0
   pub blocks : f.blocks ≡ size
   pub layers : layers_of f ≡ []
 
--- A session can go on from the image: it has this superblock and these transactions, stands for this tree,
--- and its numbers leave room.
+-- A session can go on from the image: it has this superblock and these transactions, stands for
+-- this tree, and its numbers leave room.
 pub record IsMountable (size : ℕ) (image : List (List ℕ)) (f : Fields) (txns : Transactions)
     (tree : Tree) : Type 0 where
   pub slots : 2 ≤ size
@@ -59,8 +59,8 @@ abbrev pub HasStream : List (List ℕ) → Fields → List StreamBlock → Type 
 HasStream image f blocks =
     (next : Start) × IsStream image f.ring f.generation (start_of f) blocks next
 
--- The chosen superblock's ring has so many blocks, and of it so many are live: those of the stream, and the
--- next.
+-- The chosen superblock's ring has so many blocks, and of it so many are live: those of the stream,
+-- and the next.
 abbrev pub HasRing : List (List ℕ) → ℕ → ℕ → Type 0
 HasRing image ring live = (f : Fields) (blocks : List StreamBlock) → ChoosesSuper f image
     → HasStream image f blocks → (ring ≡ f.ring) × (live ≡ length blocks + 1)
@@ -92,8 +92,8 @@ pub record AreSlots (image : List (List ℕ)) (first second : Result Super Super
   pub first_is : Decoded (first_slot image) first
   pub second_is : Decoded (second_slot image) second
 
--- The image of the record is such an image, which stands for this tree, with these transactions, of which
--- the last has this number.
+-- The image of the record is such an image, which stands for this tree, with these transactions, of
+-- which the last has this number.
 abbrev pub IsMountedAt : (size base : ℕ) → Transactions → Tree → DiskRecord → Type 0
 IsMountedAt size base txns opening r =
     (f : Fields) × IsMountable size r.contents f txns opening × (kept f txns ≡ base)
@@ -125,8 +125,8 @@ IsRefused size image OutOfMemory = ⊥
 abbrev pub IsTold : DiskSeen → MountFault → Type 0
 IsTold seen fault = IfSome seen.told (λ r. IsRefused seen.size r.contents fault)
 
--- Why a disk was not mounted. It failed: a read did, or the call that was last asked for. There was no memory,
--- or its image is no image to mount: then it was only read, and did not fail.
+-- Why a disk was not mounted. It failed: a read did, or the call that was last asked for. There was
+-- no memory, or its image is no image to mount: then it was only read, and did not fail.
 abbrev pub IsMountCause : DiskSeen → DiskSeen → MountFault → Type 0
 IsMountCause before after Device =
     Rose before.faults after.faults × (HasOnlyRead before after ⊎ HasFailedLast after)
@@ -135,16 +135,20 @@ IsMountCause before after fault = HasReadWell before after × IsTold before faul
 
 -- ---- what a mount answers
 
--- A store that begins: nothing was committed yet, and no block waits. The disk was written and flushed once.
+-- A store that begins: nothing was committed yet, no block waits, and its ring is the superblock's,
+-- of which the stream's blocks are live, and the next one. Two calls of the disk were made, with no
+-- fault.
 pub record IsNewStore {Device : Type 0} (before after : DiskSeen) (store : State Device)
     : Type 0 where
   pub from : store.from ≡ before.calls
   pub history : store.history ≡ []
   pub waiting : store.waiting ≡ 0
+  pub ring : IfSome before.told (λ r. HasRing r.contents store.ring store.live)
   pub calls : after.calls ≡ before.calls + 2
   pub faults : after.faults ≡ before.faults
 
--- An image with this superblock and these transactions is mounted, unless the disk fails or memory runs out.
+-- An image with this superblock and these transactions is mounted, unless the disk fails or memory
+-- runs out.
 abbrev pub TakesImage : {Device : Type 0} → Fields → Transactions
     → Result (State Device) (Unmounted Device) → Type 0
 TakesImage f txns (Ok store) = (store.base ≡ kept f txns) × (store.txns ≡ txns)

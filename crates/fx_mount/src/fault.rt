@@ -43,7 +43,8 @@ pub enum MountFault {
     /// The chosen superblock names layers, this block first. No layer can be read yet.
     #[error("the superblock names a layer at block {0}")]
     BadLayer(u32),
-    /// The record of the journal at this place, counted from 0, is none, or its number is out of order.
+    /// The record of the journal at this place, counted from 0, is none, or its number is out of
+    /// order.
     #[error("record {0} of the journal is bad")]
     BadRecord(u32),
     /// The items of the journal make no tree, and this is the least node, by store and id, at which

@@ -105,8 +105,8 @@ fn check(sup: &Super, blocks: u32) -> Result<(), MountFault>
     Ok(())
 }
 
-/// The chosen superblock of what was read in the two places of a disk of so many blocks, where a session
-/// can go on from it.
+/// The chosen superblock of what was read in the two places of a disk of so many blocks, where a
+/// session can go on from it.
 fn found_in(
     blocks: u32,
     first: Result<Super, SuperFault>,

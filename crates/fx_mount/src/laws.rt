@@ -12,8 +12,8 @@ ghost use Rattle.fx_mount.specs.Formatted.{IsFormatted};
 ghost use Rattle.fx_mount.specs.Found.{IsMountable, IsRefused};
 ghost use Rattle.fx_mount.specs.declared.fault.MountFault.{MountFault};
 
-/// An image that a session can go on from is refused for nothing. So what a stop leaves of a disk whose
-/// numbers left ample room is mounted again.
+/// An image that a session can go on from is refused for nothing. So what a stop leaves of a disk
+/// whose numbers left ample room is mounted again.
 pub fn image_laws()
     ensures taken { (size : ℕ) (image : List (List ℕ)) (f : Fields) (txns : Transactions)
         (tree : Tree) (fault : MountFault) →
@@ -24,8 +24,8 @@ pub fn image_laws()
         IsRefused size image fault → ⊥ }
 {}
 
-/// What a format leaves of a disk on which nothing was loose: an image with the first superblock, no
-/// transactions, and the root alone, which a session can go on from.
+/// What a format leaves of a disk on which nothing was loose: an image with the first superblock,
+/// no transactions, and the root alone, which a session can go on from.
 pub fn formatted_laws()
     ensures image { (size ring calls : ℕ) (before after : DiskRecord) (image : List (List ℕ)) →
         IsSettled before → IsRecordOf size calls after → IsFormatted size ring before after →

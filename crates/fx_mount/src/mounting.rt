@@ -8,7 +8,7 @@ ghost use Rattle.fx_plain.specs.Tree.{Tree};
 ghost use Rattle.fx_image.specs.Standing.{Transactions};
 ghost use Rattle.fx_store.specs.Mounted.{LeavesImages, LeavesOpening, Opens};
 ghost use Rattle.fx_store.specs.Opening.{CanBegin};
-ghost use Rattle.fx_mount.specs.Found.{HasReadWell, HasRing, IsMountCause, IsMountable, IsMountedAt, IsNewStore, TakesImage, disk_after};
+ghost use Rattle.fx_mount.specs.Found.{HasReadWell, IsMountCause, IsMountable, IsMountedAt, IsNewStore, TakesImage, disk_after};
 
 use crate::fault::MountFault;
 use crate::find::find;
@@ -43,17 +43,18 @@ fn read<D: Disk>(alloc: Global, disk: &mut D) -> Result<(Found, Contents), Mount
     }
 }
 
-/// Mounts the disk: reads both superblocks, the journal's stream and its records, and checks that they make
-/// a tree; then writes the chosen superblock with the next generation over the other one, and flushes. So it
-/// makes one write and one flush; where it is refused for what the disk holds, it writes nothing.
+/// Mounts the disk: reads both superblocks, the journal's stream and its records, and checks that
+/// they make a tree; then writes the chosen superblock with the next generation over the other one,
+/// and flushes. So it makes one write and one flush; where it is refused for what the disk holds,
+/// it writes nothing.
 ///
-/// Costs one pass over the stream's blocks, and the time of its records and of the tree's nodes. All memory
-/// is taken before the superblock is written.
+/// Costs one pass over the stream's blocks, and the time of its records and of the tree's nodes.
+/// All memory is taken before the superblock is written.
 pub fn mount<D: Disk>(alloc: Global, disk: D) -> Result<Store<D>, Unmounted<D>>
     ensures new { IfOk result (λ store. IsNewStore (D.seen disk) (D.seen store.disk) store) }
 
-    // The transactions make a tree, and the disk has an image that a session can go on from, with these
-    // transactions, of which the last has the number `base`, and this tree.
+    // The transactions make a tree, and the disk has an image that a session can go on from, with
+    // these transactions, of which the last has the number `base`, and this tree.
     ensures opens { IfOk result (λ store. (opening : Tree) × Opens store.txns opening
         × IfSome (D.seen disk).told
         (IsMountedAt (D.seen disk).size store.base store.txns opening)) }
@@ -63,17 +64,14 @@ pub fn mount<D: Disk>(alloc: Global, disk: D) -> Result<Store<D>, Unmounted<D>>
         (D.seen disk).told ≡ Some r →
         IsMountable (D.seen disk).size r.contents f txns tree → TakesImage f txns result }
 
-    // The ring is the superblock's, and of it the stream's blocks are live, and the next one.
-    ensures ring { IfOk result (λ store. IfSome (D.seen disk).told
-        (λ r. HasRing r.contents store.ring store.live)) }
-
-    // What a stop may leave, and that every image left now has the superblock of the next generation.
+    // What a stop may leave, and that every image left now has the superblock of the next
+    // generation.
     ensures images { IfOk result (λ store. LeavesImages (D.seen store.disk) store []) }
 
     ensures cause { IfErr result (λ un. IsMountCause (D.seen disk) (D.seen un.disk) un.fault) }
 
-    // Whatever a stop leaves has the chosen superblock of before, or that of the next generation, and
-    // stands for the tree that it was.
+    // Whatever a stop leaves has the chosen superblock of before, or that of the next generation,
+    // and stands for the tree that it was.
     ensures opening { IfErr result (λ un. LeavesOpening (D.seen disk).calls (D.seen un.disk)) }
 
     ensures few { (D.seen (disk_after result)).calls ≤ (D.seen disk).calls + 2 }

@@ -1,23 +1,25 @@
 //! Reading what the journal of a disk holds.
-ghost use Rattle.std.specs.Prelude.{◌≡◌, ◌≢◌, ◌↔◌, ℕ, ◌<◌, ◌≤◌, ◌^◌, All, List, IfOk, IfErr, OnOk, IsTrue, length};
+ghost use Rattle.std.specs.Prelude.{◌≡◌, ◌≢◌, ◌↔◌, ℕ, ◌+◌, ◌<◌, ◌≤◌, ◌^◌, All, List, IfOk, IfErr, OnOk, IsTrue, length};
 ghost use Rattle.std.specs.FinMap.{insert};
 ghost use Rattle.std.specs.Option.{IfSome};
 ghost use Rattle.fx_disk.specs.Seen.{HasOnlyRead};
-ghost use Rattle.fx_item.specs.Look.{next_id_after, next_store_after, value_in};
+ghost use Rattle.fx_item.specs.Look.{value_in};
 ghost use Rattle.fx_namespace.specs.Nodes.{Stands};
 ghost use Rattle.fx_namespace.specs.Trees.{IsTreeOf, bare};
 ghost use Rattle.fx_record.specs.Commits.{IsCommit};
+ghost use Rattle.fx_plain.specs.Tree.{IsCountable, node_count};
 ghost use Rattle.fx_record.specs.Txns as records;
-ghost use Rattle.fx_record.specs.Txns.{IsTxns, txns_of};
+ghost use Rattle.fx_record.specs.Txns.{txns_of};
 ghost use Rattle.fx_journal.specs.Stream.{IsSeries};
 ghost use Rattle.fx_super.specs.Super.{KeepsRules, fields_of};
 ghost use Rattle.fx_log.specs.Chosen.{ChoosesSuper, start_of};
-ghost use Rattle.fx_image.specs.Standing.{HasSessionRoom, StandsFor, Transactions, items_after, kept, lists_of, stream_pieces};
+ghost use Rattle.fx_image.specs.Standing.{HasSessionRoom, Transactions, kept, stream_pieces};
 ghost use Rattle.fx_store.specs.Opening.{IsRead};
 ghost use Rattle.fx_store.specs.Session.{KnowsNodes, new_step};
+ghost use Rattle.fx_store.specs.declared.opening.TheConstants.{MAX_OPENING_NODES};
 ghost use Rattle.fx_mount.specs.Found.{CanGoOn, HasReadWell, HasStream, HasSuper, IsMountCause};
-ghost use Rattle.fx_mount.specs.Growing.{AreParentsFirst, HasNodes, HasPaths, MayStand, empty_node};
-ghost use Rattle.fx_mount.specs.Reading.{IsGathered, IsReadFault};
+ghost use Rattle.fx_mount.specs.Growing.{AreParentsFirst, HasFewNodes, HasNodes, HasPaths, MayStand, empty_node};
+ghost use Rattle.fx_mount.specs.Reading.{HoldsContents, IsGathered, IsReadFault};
 
 use crate::fault::MountFault;
 use fx_disk::Disk;
@@ -29,8 +31,8 @@ use fx_store::{Contents, NodeMap, start_of};
 use fx_super::Super;
 use std::alloc::{AllocError, Global};
 
-/// Reads the stream, its transactions and the tree that their items make. One pass over the stream's
-/// blocks, and the time of its records and of the nodes.
+/// Reads the stream, its transactions and the tree that their items make. One pass over the
+/// stream's blocks, and the time of its records and of the nodes.
 pub(crate) fn read_journal<D: Disk>(
     alloc: Global,
     disk: &mut D,
@@ -61,17 +63,8 @@ fn read_contents(alloc: Global, sup: &Super, stream: Stream) -> Result<Contents,
     requires few { length stream.blocks ≤ sup.now.ring }
     requires series { IsSeries sup.now.generation (start_of (fields_of sup.now))
         stream.blocks stream.next }
-    ensures next { IfOk result (λ c. (c.closed ≡ length stream.blocks) × (c.next ≡ stream.next)) }
-    ensures txns { IfOk result (λ c.
-        IsTxns sup.now.base (stream_pieces stream.blocks) (txns_of c.txns)) }
-    ensures base { IfOk result (λ c. kept (fields_of sup.now) (txns_of c.txns) ≡ c.base) }
-    ensures room { IfOk result (λ c. HasSessionRoom (fields_of sup.now) (txns_of c.txns)) }
-    ensures stands { IfOk result (λ c. StandsFor (items_after (txns_of c.txns)) c.tree) }
-    ensures nodes { IfOk result (λ c. KnowsNodes (items_after (txns_of c.txns)) c.nodes) }
-    ensures next_id { IfOk result (λ c.
-        c.next_id ≡ next_id_after sup.now.next_id (lists_of (txns_of c.txns))) }
-    ensures next_store { IfOk result (λ c.
-        c.next_store ≡ next_store_after sup.now.next_store (lists_of (txns_of c.txns))) }
+    ensures holds { IfOk result
+        (HoldsContents (fields_of sup.now) stream.blocks stream.next) }
     ensures refused { IfErr result (λ fault. (size : ℕ) (image : List (List ℕ)) →
         HasSuper size image (fields_of sup.now) →
         HasStream image (fields_of sup.now) stream.blocks → IsReadFault size image fault) }
@@ -155,9 +148,11 @@ fn has_room(sup: &Super, base: u64, table: &ItemTable) -> bool
 
 /// The tree of items that make one, and the node of each of its paths.
 fn tree_of(alloc: Global, table: &ItemTable) -> Result<(Plain, NodeMap), AllocError>
-    requires { Stands (value_in table.now.items) }
+    requires stands { Stands (value_in table.now.items) }
+    requires few { HasFewNodes (value_in table.now.items) }
     ensures tree { IfOk result (λ made. IsTreeOf (value_in table.now.items) bare made.0) }
     ensures nodes { IfOk result (λ made. KnowsNodes (value_in table.now.items) made.1) }
+    ensures small { IfOk result (λ made. node_count made.0 ≤ MAX_OPENING_NODES) }
 {
     let nodes = tree_nodes(alloc, table)?;
     grow(alloc, nodes)
@@ -165,9 +160,11 @@ fn tree_of(alloc: Global, table: &ItemTable) -> Result<(Plain, NodeMap), AllocEr
 
 /// The tree of these nodes, parents before their children, and the node of each of its paths.
 fn grow(alloc: Global, nodes: TreeNodes) -> Result<(Plain, NodeMap), AllocError>
-    requires { AreParentsFirst nodes }
+    requires first { AreParentsFirst nodes }
+    requires few { length nodes < MAX_OPENING_NODES }
     ensures tree { IfOk result (λ made. HasNodes nodes (length nodes) made.0) }
     ensures nodes { IfOk result (λ made. HasPaths nodes (length nodes) made.1) }
+    ensures small { IfOk result (λ made. node_count made.0 ≤ length nodes + 1) }
 {
     let mut tree = Plain::new(alloc)?;
     let mut paths = NodeMap::new(alloc)?;
@@ -184,7 +181,8 @@ fn add_node(
     paths: &mut NodeMap,
     node: TreeNode,
 ) -> Result<(), AllocError>
-    requires { MayStand tree.old node.path node.kind }
+    requires few { IsCountable tree.old }
+    requires stands { MayStand tree.old node.path node.kind }
     ensures tree { OnOk result (tree.new ≡ insert tree.old node.path (empty_node node.kind)) }
     ensures paths { OnOk result (paths.new ≡ insert paths.old node.path node.node) }
 {

@@ -1,6 +1,6 @@
 -- How the lines of a mounted disk end.
 use Rattle.std.proofs.Common.{◌≡◌, ◌≢◌, ℕ, ◌+◌, true, false, Bool, List, [], ◌∷◌, ◌++◌, length, refl, sym, ap, subst, ◌∙◌, IsOk, is_ok}
-use Rattle.std.specs.Prelude.{Option, None, Some, Result, Ok, Err, ◌||◌}
+use Rattle.std.specs.Prelude.{None, Some, Result, Ok, Err, ◌||◌}
 use Rattle.std.specs.List.{list_any}
 use Rattle.fx_plain.specs.Table.{do_all, do_from, do_step, go_on, is_reading, refused}
 use Rattle.fx_plain.specs.Tree.{Tree}
@@ -19,7 +19,7 @@ use Rattle.fx_history.specs.declared.outcome.EndKind.{EndKind}
 use Rattle.fx_history.specs.declared.outcome.EndKind.TheVariants.{Committed, Seen, Refused, Full, Synced, DeviceFault, OutOfMemory}
 use Rattle.fx_history.specs.History.{tree_at}
 use Rattle.fx_history.specs.Transcript.{EndsNext, steps_of}
-use Rattle.fx_store.specs.Line.{EndsAs, entry_of}
+use Rattle.fx_store.specs.Line.{EndsAs}
 use Rattle.fx_store.specs.Mounted.{Opens}
 use Rattle.fx_store.specs.Inside.{IsStore}
 use Rattle.fx_store.specs.declared.session.Session.{Session}
@@ -94,7 +94,7 @@ module _ {seen : DiskSeen} {from : ℕ} {s : Session} {ring : RingState} {pool :
   pub ends-full : is_reading step ≡ false → refused (do_step s.tree step).0 ≡ None → (full : rings.Full) → EndsNext opening s.base items items task at (Full full)
   ends-full changing e full = (refl, refl, record { no_sync = no-sync; changing = changing-all changing; done = done-there e (steps_of task.line) steps-are })
 
-  pub ends-commit : is_reading step ≡ false → refused (do_step s.tree step).0 ≡ None → (entry : Entry) → entry ≡ entry_of (at + 1) task step → (new : List Entry) → new ≡ items ++ entry ∷ []
+  pub ends-commit : is_reading step ≡ false → refused (do_step s.tree step).0 ≡ None → (entry : Entry) → entry ≡ record { number = at + 1; who = task.client; line = task.number; steps = step ∷ []; settled = 0 } → (new : List Entry) → new ≡ items ++ entry ∷ []
       → EndsNext opening s.base items new task (at + 1) Committed
   ends-commit changing e entry is new more = (
     entry,

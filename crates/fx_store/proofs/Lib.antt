@@ -5,3 +5,4 @@ pub mod Planning
 pub mod Stores
 pub mod Ends
 pub mod Writing
+pub mod PoolOrder

@@ -1,21 +1,20 @@
 -- The write and the flush of a mount, by what the disk tells.
-use Rattle.std.proofs.Common.{◌≡◌, ℕ, ◌+◌, ◌^◌, ◌<◌, ◌≤◌, List, [], Bool, true, append-nil, length, refl, sym, ap, subst, ◌∙◌, arith}
+use Rattle.std.proofs.Common.{◌≡◌, ℕ, ◌+◌, List, [], Bool, true, append-nil, length, refl, sym, ap, subst, ◌∙◌, arith}
 use Rattle.std.specs.Prelude.{IfSome, None, Option, Some}
 use Rattle.fx_disk.specs.Record.{DiskRecord}
-use Rattle.fx_disk.specs.Seen.{DiskSeen, GoesOn, HasFlushed, HasWritten}
+use Rattle.fx_disk.specs.Seen.{DiskSeen, GoesOn, HasCalled, HasFlushed, HasWritten}
 use Rattle.fx_disk.specs.Steps.{IsRecordOf, Writes, Flushes}
 use Rattle.fx_super.specs.Super.{Fields, IsSuper, fields_of}
-use Rattle.fx_super.specs.declared.superblock.TheConstants.{MAX_GENERATION}
 use Rattle.fx_super.specs.Chosen.{IsChosen, block_number, other}
 use Rattle.fx_super.specs.declared.choice.Which.{Which}
 use Rattle.fx_item.specs.Item.{PlainItem}
 use Rattle.fx_item.specs.Look.{after_all, next_id_after, next_store_after}
-use Rattle.fx_plain.specs.Tree.{Tree}
+use Rattle.fx_plain.specs.Tree.{Tree, node_count}
 use Rattle.fx_jblock.specs.declared.Start.{Start}
-use Rattle.fx_journal.specs.Ring.{IsRing, KeepsBuffers, RingState, begun, blocks_out, live}
-use Rattle.fx_pool.specs.Region.{IsSound, Region, Run}
+use Rattle.fx_journal.specs.Ring.{IsRing, KeepsBuffers, RingState, begun, live}
+use Rattle.fx_pool.specs.Region.{Region, Run}
 use Rattle.fx_record.specs.Txns.{txns_of}
-use Rattle.fx_log.specs.Chosen.{ChoosesSuper, next_generation, start_of}
+use Rattle.fx_log.specs.Chosen.{next_generation, start_of}
 use Rattle.fx_image.specs.Standing.{Transactions, items_after, lists_of}
 use Rattle.fx_image.specs.Journal.{HasJournal, IsJournal}
 use Rattle.fx_image.proofs.JournalStart.{journal-new}
@@ -23,15 +22,14 @@ use Rattle.fx_log.proofs.LogRaised.{series-next}
 use Rattle.fx_disk.proofs.Made.{good-made}
 use Rattle.fx_log.proofs.SuperTold as supers
 use Rattle.fx_image.proofs.JournalTold.{ReadsAs, told-raise, told-begun-flush, told-mounted}
-use Rattle.fx_log.proofs.SuperChoice.{one_super, stream_chosen}
 use Rattle.fx_image.proofs.Mounted.{mounted-new}
 use Rattle.fx_image.proofs.MountUnfinished.{told-unfinished, told-untouched}
 use Rattle.fx_image.specs.Prefix.{KeepsPrefix}
 use Rattle.fx_log.specs.Raising.{ChoosesNext, ChoosesSince}
 use Rattle.fx_store.specs.Mounted.{KeepsImages, LeavesOpening}
 use Rattle.fx_store.specs.Inside.{IsStore}
-use Rattle.fx_store.specs.Opening.{CanBegin, FitsTogether, HasBegun, IsOn, IsPrepared, IsRead, Raises, Read, TellsChosen, journal_of, read_of, ring_of}
-use Rattle.fx_store.specs.Session.{IsSessionOf, KnowsNodes}
+use Rattle.fx_store.specs.Opening.{CanBegin, FitsTogether, HasBegun, IsOn, IsPoolFor, IsPrepared, IsRead, Raises, Read, TellsChosen, journal_of, read_from}
+use Rattle.fx_store.specs.Session.{BeginsWith, IsSessionOf, KnowsNodes}
 use Rattle.fx_store.specs.declared.session.Session.{Session}
 use Rattle.fx_store.specs.declared.opening.Contents.{Contents}
 use Rattle.fx_store.specs.declared.opening.Found.{Found}
@@ -79,36 +77,30 @@ module _ (seen : DiskSeen) (f : Fields) (c : Contents) (is : IsRead seen f c) wh
   pub next_place : c.next.sequence ≡ f.sequence + c.closed
   next_place = omega (arith, series-next f.generation (start_of f) c.next is.blocks is.reading.head.series, is.closed_is)
 
-  pub closed_few : c.closed ≤ f.ring
-  closed_few = omega (arith, is.few, is.closed_is)
-
-  pub fits_together : FitsTogether seen.size f (read_of c is.blocks)
-  fits_together = record { few = is.few; reading = is.reading; stands = is.stands }
+  pub fits_together : FitsTogether seen.size f (read_from c is.blocks)
+  fits_together = record { few = is.few; reading = is.reading; stands = is.stands; small = is.small }
 
   abbrev lists : List (List PlainItem)
   lists = lists_of (txns_of c.txns)
 
-  module _ (s : Session) (base_is : s.base ≡ c.base) (txns_are : s.txns ≡ c.txns) (tree_is : s.tree ≡ c.tree)
-      (nodes_are : s.nodes ≡ c.nodes) (fresh : s.history.items ≡ []) (none : s.settled ≡ 0)
-      (next : s.next ≡ record { id = c.next_id; store = c.next_store }) where
-    session_of : (from : ℕ) → IsSessionOf (journal_of seen.size from f (read_of c is.blocks)) s
+  module _ (s : Session) (b : BeginsWith c s) where
+    session_of : (from : ℕ) → IsSessionOf (journal_of seen.size from f (read_from c is.blocks)) s
     session_of from = record {
-      base = base_is;
-      txns = ap txns_of txns_are;
-      history = fresh;
-      settled = none;
-      tree = tree_is;
+      base = b.base;
+      txns = ap txns_of b.txns;
+      history = b.history;
+      settled = b.settled;
+      tree = b.tree;
       knows = subst (λ (xs : List (List PlainItem)). KnowsNodes (after_all xs) s.nodes) (sym (append-nil lists))
-          (subst (KnowsNodes (items_after (txns_of c.txns))) (sym nodes_are) is.knows);
-      id = ap (λ (n : Numbers). n.id) next ∙ is.next_id ∙ ap (next_id_after f.next_id) (sym (append-nil lists));
-      store = ap (λ (n : Numbers). n.store) next ∙ is.next_store ∙ ap (next_store_after f.next_store) (sym (append-nil lists));
+          (subst (KnowsNodes (items_after (txns_of c.txns))) (sym b.nodes) is.knows);
+      id = ap (λ (n : Numbers). n.id) b.next ∙ is.next_id ∙ ap (next_id_after f.next_id) (sym (append-nil lists));
+      store = ap (λ (n : Numbers). n.store) b.next ∙ is.next_store ∙ ap (next_store_after f.next_store) (sym (append-nil lists));
     }
 
     pub is_prepared : (ring : RingState) (pool : Region) (start : Start) → start ≡ start_of f
         → ring ≡ record { start = start; size = f.ring; epoch = f.generation + 1; closed = c.closed; chain = c.next.chain; text = []; promised = 0; queued = 0; buffers = [] }
-        → IsRing ring → IsSound pool → blocks_out pool ≡ 0 → f.ring + 1 ≤ 2 ^ pool.order
-        → IsPrepared seen.size f (read_of c is.blocks) s ring pool
-    is_prepared ring pool start begins e ring_is sound out enough = record {
+        → IsRing ring → IsPoolFor f.ring pool → IsPrepared seen.size f (read_from c is.blocks) s ring pool
+    is_prepared ring pool start begins e ring_is new = record {
       session = session_of;
       ring_is = e
           ∙ ap (λ (from : Start). record { start = from; size = f.ring; epoch = f.generation + 1; closed = c.closed; chain = c.next.chain; text = []; promised = 0; queued = 0; buffers = [] }) begins
@@ -116,13 +108,13 @@ module _ (seen : DiskSeen) (f : Fields) (c : Contents) (is : IsRead seen f c) wh
       buffers = record {
         ring_is = ring_is;
         buffers = subst (λ (runs : List Run). KeepsBuffers runs pool) (sym none_out) (record {
-          sound = sound;
+          sound = new.sound;
           out = λ i lt. absurd (omega arith);
           single = λ i lt. absurd (omega arith);
           apart = λ i j lt within. absurd (omega arith);
         });
-        out = omega (arith, out, ap length none_out);
-        enough = omega (arith, enough, ap (λ (r : RingState). r.size) e);
+        out = omega (arith, new.free, ap length none_out);
+        enough = omega (arith, new.enough, ap (λ (r : RingState). r.size) e);
         promised = ap (λ (r : RingState). r.promised) e;
       };
     }
@@ -154,9 +146,10 @@ module _ (size : ℕ) (f : Fields) (read : Read) (fits : FitsTogether size f rea
       size_is = sym same;
       from_is = refl;
       opens = fits.stands;
-      mounted = mounted-new size from read.tree read.base f read.blocks read.place read.txns after.calls after.told ring pool fits.reading fits.few fits.stands
+      mounted = mounted-new size from read.tree read.base f read.blocks read.place read.txns after ring pool fits.reading fits.few fits.stands
           (told-mounted (journal_of size from f read) after.told has next) p.ring_is;
       session = p.session from;
+      small = omega (arith, fits.small, ap node_count (p.session from).tree);
       buffers = p.buffers;
     }
 
@@ -183,14 +176,7 @@ module _ (before : DiskSeen) (found : Found) (c : Contents) (can : CanBegin befo
   sup = fields_of found.sup
 
   abbrev read : Read
-  read = read_of c can.read.blocks
-
-  -- the superblock can be raised
-  pub two_slots : 2 ≤ before.size
-  two_slots = omega (arith, can.read.reading.head.blocks, can.read.reading.head.rules.blocks_least)
-
-  pub generation_room : sup.generation + 1 ≤ MAX_GENERATION
-  generation_room = omega (arith, can.read.reading.room.generations)
+  read = read_from c can.read.blocks
 
   module _ (s : Session) (ring : RingState) (pool : Region) (p : IsPrepared before.size sup read s ring pool) where
     -- the superblock was raised, or that was tried
@@ -212,9 +198,9 @@ module _ (before : DiskSeen) (found : Found) (c : Contents) (can : CanBegin befo
       images_raised from same next = subst (λ (n : ℕ). IfSome after.told (KeepsImages after.size n (txns_of s.txns) s.base [])) (sym same)
           (images_begun after before.calls (txns_of s.txns) s.base opening_raised next)
 
-    pub begun_with : {Device : Type 0} (disk : Device) (from : ℕ) → from ≡ before.calls
-        → HasBegun before found c (record { disk = disk; from = from; base = s.base; txns = txns_of s.txns; history = s.history.items; ring = ring.size; live = live ring; waiting = ring.queued + begun ring.text })
-    begun_with disk from same = record {
+    pub begun_with : {Device : Type 0} (disk : Device) (after : DiskSeen) (from : ℕ) → from ≡ before.calls → (after.calls ≡ before.calls + 2) × HasCalled before after true
+        → HasBegun before after found c (record { disk = disk; from = from; base = s.base; txns = txns_of s.txns; history = s.history.items; ring = ring.size; live = live ring; waiting = ring.queued + begun ring.text })
+    begun_with disk after from same two = record {
       from = same;
       base = (p.session 0).base;
       txns = (p.session 0).txns;
@@ -222,4 +208,6 @@ module _ (before : DiskSeen) (found : Found) (c : Contents) (can : CanBegin befo
       ring = ap (λ (r : RingState). r.size) p.ring_is;
       live = live_begun before.size sup read (fits_together before sup c can.read) s ring pool p ∙ omega (arith, can.read.closed_is);
       waiting = nothing_waits before.size sup read (fits_together before sup c can.read) s ring pool p;
+      calls = two.0;
+      called = two.1;
     }

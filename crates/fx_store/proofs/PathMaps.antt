@@ -11,7 +11,7 @@ use Rattle.std.specs.BTreeMap.{insert_entry, is_at}
 use Rattle.std.specs.Map.{lookup}
 use Rattle.fx_plain.specs.Tree.{path_cmp}
 use Rattle.fx_plain.proofs.Paths.{paths_total, paths_exact}
-use Rattle.fx_store.specs.Nodes.{by_path, table_of}
+use Rattle.fx_store.specs.Nodes.{node_entries, table_of}
 
 abbrev pub Key : Type 0
 Key = Vec (List ℕ) Global
@@ -20,18 +20,18 @@ abbrev pub key_cmp : Key → Key → Ordering
 key_cmp x y = path_cmp x.items y.items
 
 module _ (V : Type 0) where
-  find-by_path : (es : List (Key × V)) (q : List (List ℕ)) → find path_cmp q (by_path es) ≡ lookup (is_at (λ k. path_cmp q k.items)) es
+  find-by_path : (es : List (Key × V)) (q : List (List ℕ)) → find path_cmp q (node_entries es) ≡ lookup (is_at (λ k. path_cmp q k.items)) es
   find-by_path [] q = refl
   find-by_path (e ∷ es) q = ap (cond (is_at (path_cmp q) e.0.items) (Some e.1)) (find-by_path es q)
 
   -- what the finite map has at a path
   pub get-table_of : (es : List (Key × V)) (q : List (List ℕ)) → get (table_of es) q ≡ lookup (is_at (λ k. path_cmp q k.items)) es
-  get-table_of es q = get-from_entries paths_total (by_path es) q ∙ find-by_path es q
+  get-table_of es q = get-from_entries paths_total (node_entries es) q ∙ find-by_path es q
 
-  by_path-insert_entry : (es : List (Key × V)) (k : Key) (v : V) → by_path (insert_entry key_cmp es k v) ≡ put path_cmp k.items v (by_path es)
+  by_path-insert_entry : (es : List (Key × V)) (k : Key) (v : V) → node_entries (insert_entry key_cmp es k v) ≡ put path_cmp k.items v (node_entries es)
   by_path-insert_entry [] k v = refl
   by_path-insert_entry (e ∷ es) k v =
-      elim (path_cmp k.items e.0.items) as (λ o. by_path (match_ordering o ((k, v) ∷ e ∷ es) ((e.0, v) ∷ es) (e ∷ insert_entry key_cmp es k v)) ≡ by_order o ((k.items, v) ∷ by_path (e ∷ es)) ((e.0.items, v) ∷ by_path es) ((e.0.items, e.1) ∷ put path_cmp k.items v (by_path es))) [
+      elim (path_cmp k.items e.0.items) as (λ o. node_entries (match_ordering o ((k, v) ∷ e ∷ es) ((e.0, v) ∷ es) (e ∷ insert_entry key_cmp es k v)) ≡ by_order o ((k.items, v) ∷ node_entries (e ∷ es)) ((e.0.items, v) ∷ node_entries es) ((e.0.items, e.1) ∷ put path_cmp k.items v (node_entries es))) [
         | Less ↦ refl
         | Equal ↦ refl
         | Greater ↦ ap (λ r. (e.0.items, e.1) ∷ r) (by_path-insert_entry es k v)
@@ -42,5 +42,5 @@ module _ (V : Type 0) where
   table_of-insert_entry es k v = same_map paths_total paths_exact _ _ (λ q.
       get-from_entries paths_total _ q
       ∙ ap (find path_cmp q) (by_path-insert_entry es k v)
-      ∙ find-put path_cmp paths_total q k.items v (by_path es)
-      ∙ sym (get-insert paths_total (table_of es) k.items v q ∙ ap (cond (eq_by_cmp path_cmp q k.items) (Some v)) (get-from_entries paths_total (by_path es) q)))
+      ∙ find-put path_cmp paths_total q k.items v (node_entries es)
+      ∙ sym (get-insert paths_total (table_of es) k.items v q ∙ ap (cond (eq_by_cmp path_cmp q k.items) (Some v)) (get-from_entries paths_total (node_entries es) q)))

@@ -9,10 +9,10 @@ use Rattle.std.specs.declared.cmp.Ordering.{Ordering}
 use Rattle.std.specs.declared.cmp.Ordering.TheVariants.{Less, Equal, Greater}
 use Rattle.std.proofs.lemmas.List.{same_from_push}
 use Rattle.std.proofs.lemmas.Option.{same_Some}
-use Rattle.fx_item.specs.Item.{PlainItem, IsItem, ChildKey}
+use Rattle.fx_item.specs.Item.{PlainItem, IsNameItem, ChildKey}
 use Rattle.fx_item.specs.Name.{is_name}
 use Rattle.fx_item.specs.Look.{ItemMap, after}
-use Rattle.fx_plain.specs.Bare.{IsMade, IsWritten, bare, bare_node}
+use Rattle.fx_plain.specs.Bare.{IsPlaced, IsWritten, bare, bare_node}
 use Rattle.fx_plain.specs.Node.{Node, Dir, File}
 use Rattle.fx_plain.specs.Table.{do_step, refused}
 use Rattle.fx_plain.specs.Tree.{Tree, path_cmp}
@@ -33,6 +33,7 @@ use Rattle.fx_namespace.specs.Commits.{IsNextNode, LeadsAlso, id_then, store_the
 use Rattle.fx_namespace.proofs.Commits.{node_there, free_entry, node_below, new_numbers, written_numbers}
 use Rattle.fx_namespace.proofs.Trees.{is_tree}
 use Rattle.fx_namespace.proofs.Walks.{child_value, last_step, same_node, root_is, root_not}
+use Rattle.fx_jblock.specs.declared.TheConstants.{RECORD_BYTES}
 use Rattle.fx_record.specs.Record.{IsRecord, TransactionRecord, record_bytes}
 use Rattle.fx_record.specs.Commits.{IsCommit}
 use Rattle.fx_record.proofs.Commits.{is_record}
@@ -40,7 +41,7 @@ use Rattle.fx_record.proofs.Lengths.{few_commit, few_len, sum_text}
 use Rattle.fx_image.specs.Replay.{AreItemsOf, OfDirectory, OfFile, OfWrite}
 use Rattle.fx_image.proofs.ReplaySteps.{tree_of_bare, mkdir_leads, create_leads, create_inner, write_leads, step_ascends, step_are_items}
 use Rattle.fx_store.specs.Nodes.{NodeTable}
-use Rattle.fx_store.specs.Session.{KnowsNodes, Knows, IsPlan, new_step}
+use Rattle.fx_store.specs.Session.{KnowsNodes, KnowsItems, IsPlan, new_step}
 use Rattle.fx_store.specs.declared.commit.Numbers.{Numbers}
 
 abbrev Path : Type 0
@@ -94,7 +95,7 @@ knows_also m n nodes p node k leads = record {
 bare_of : Kind → Node
 bare_of kind = node_of holdings.bare root_node kind
 
-made_by : (kind : Kind) (t : Tree) (path : Path) → refused (do_step t (new_step kind path)).0 ≡ None → IsMade t path (node_of holdings.bare root_node kind) (do_step t (new_step kind path)).1
+made_by : (kind : Kind) (t : Tree) (path : Path) → refused (do_step t (new_step kind path)).0 ≡ None → IsPlaced t path (node_of holdings.bare root_node kind) (do_step t (new_step kind path)).1
 made_by kinds.Dir t path e = let d = done_from (do_step t (Mkdir path)).0 e in mkdir_made t path d.0 d.1
 made_by kinds.File t path e = let d = done_from (do_step t (Create path)).0 e in (create_made t path d.0 d.1).made
 
@@ -116,11 +117,11 @@ named_last (x ∷ above) name h = named_last above name h.1
 depth_of : (above : Path) (name : List ℕ) → IsPath (above ++ name ∷ []) → length above < MAX_NAMES
 depth_of above name p = omega (arith, p.few, length-append above (name ∷ []))
 
-module _ (m : ItemMap) (t : Tree) (nodes : NodeTable) (n : Numbers) (k : Knows m t nodes n) (kind : Kind) (above : Path) (name : List ℕ) (p : IsPath (above ++ name ∷ [])) (e : refused (do_step t (new_step kind (above ++ name ∷ []))).0 ≡ None) where
+module _ (m : ItemMap) (t : Tree) (nodes : NodeTable) (n : Numbers) (k : KnowsItems m t nodes n) (kind : Kind) (above : Path) (name : List ℕ) (p : IsPath (above ++ name ∷ [])) (e : refused (do_step t (new_step kind (above ++ name ∷ []))).0 ≡ None) where
   abbrev path : Path
   path = above ++ name ∷ []
 
-  made : IsMade t path (node_of holdings.bare root_node kind) (do_step t (new_step kind path)).1
+  made : IsPlaced t path (node_of holdings.bare root_node kind) (do_step t (new_step kind path)).1
   made = made_by kind t path e
 
   same_above : made.above ≡ above
@@ -173,7 +174,7 @@ module _ (m : ItemMap) (t : Tree) (nodes : NodeTable) (n : Numbers) (k : Knows m
     abbrev noted : NodeTable
     noted = insert nodes path node
 
-    pub noted_session : Knows m t noted n
+    pub noted_session : KnowsItems m t noted n
     noted_session = record {
       stands = k.stands;
       knows = knows_put m nodes path node k.knows nowhere;
@@ -205,7 +206,7 @@ module _ (m : ItemMap) (t : Tree) (nodes : NodeTable) (n : Numbers) (k : Knows m
 
 -- ---- a step that writes a file
 
-module _ (m : ItemMap) (t : Tree) (nodes : NodeTable) (n : Numbers) (k : Knows m t nodes n) (path : Path) (at : ℕ) (text : List ℕ) (e : refused (do_step t (Write path at text)).0 ≡ None) where
+module _ (m : ItemMap) (t : Tree) (nodes : NodeTable) (n : Numbers) (k : KnowsItems m t nodes n) (path : Path) (at : ℕ) (text : List ℕ) (e : refused (do_step t (Write path at text)).0 ≡ None) where
   wrote : IsWritten t path at text (do_step t (Write path at text)).1
   wrote = let d = done_from (do_step t (Write path at text)).0 e in
       write_made t path at text d.0 (tree_of_bare t (is_tree m holdings.bare (bare t) k.stands.stands k.stands.tree_is)) d.1
@@ -232,7 +233,7 @@ module _ (m : ItemMap) (t : Tree) (nodes : NodeTable) (n : Numbers) (k : Knows m
 
 -- ---- the same at a path that is split
 
-module _ (m : ItemMap) (t : Tree) (nodes : NodeTable) (n : Numbers) (k : Knows m t nodes n) (kind : Kind) (above : Path) (name : List ℕ) (q : Path) (q_is : q ≡ above ++ name ∷ []) where
+module _ (m : ItemMap) (t : Tree) (nodes : NodeTable) (n : Numbers) (k : KnowsItems m t nodes n) (kind : Kind) (above : Path) (name : List ℕ) (q : Path) (q_is : q ≡ above ++ name ∷ []) where
   at_split : (P : Path → Type 0) → P q → P (above ++ name ∷ [])
   at_split P h = subst P q_is h
 
@@ -247,8 +248,8 @@ module _ (m : ItemMap) (t : Tree) (nodes : NodeTable) (n : Numbers) (k : Knows m
       put_is : insert nodes (above ++ name ∷ []) (next_child parent n.id n.store) ≡ table
       put_is = ap (insert nodes (above ++ name ∷ [])) (sym node_is) ∙ ap (λ (x : Path). insert nodes x node) (sym q_is) ∙ sym table_is
 
-      pub session_at : Knows m t table n
-      session_at = subst (λ (x : NodeTable). Knows m t x n) put_is
+      pub session_at : KnowsItems m t table n
+      session_at = subst (λ (x : NodeTable). KnowsItems m t x n) put_is
           (noted_session m t nodes n k kind above name (subst IsPath q_is p) (subst NotRefused q_is e) parent got)
 
       pub plan_at : (list : List PlainItem) → list ≡ new_items parent name node kind → (next : Numbers) → next.id ≡ id_then parent n.id → next.store ≡ store_then parent n.store
@@ -267,8 +268,8 @@ few_items m id store step list (OfDirectory above name parent node e named depth
 few_items m id store step list (OfFile above name parent node e named depth way next is) = subst (λ (xs : List PlainItem). length xs ≤ 2) (sym is) (omega arith)
 few_items m id store step list (OfWrite path at text node e way is) = subst (λ (xs : List PlainItem). length xs ≤ 2) (sym is) (omega arith)
 
-module _ (m : ItemMap) (t : Tree) (nodes : NodeTable) (n : Numbers) (k : Knows m t nodes n) (step : Step) (list : List PlainItem) (next : Numbers) (p : IsPlan m nodes n step list next) where
-  items_are : All IsItem list
+module _ (m : ItemMap) (t : Tree) (nodes : NodeTable) (n : Numbers) (k : KnowsItems m t nodes n) (step : Step) (list : List PlainItem) (next : Numbers) (p : IsPlan m nodes n step list next) where
+  items_are : All IsNameItem list
   items_are = step_are_items m step list n.id n.store k.below (omega (arith, k.ids)) (omega (arith, k.stores)) p.are
 
   -- they are a commit
@@ -284,7 +285,7 @@ module _ (m : ItemMap) (t : Tree) (nodes : NodeTable) (n : Numbers) (k : Knows m
   plan_record number lt = is_record number list lt plan_commit
 
   -- whose record fits one block
-  pub plan_length : (number : ℕ) → (1 ≤ length (record_bytes (TransactionRecord number list))) × (length (record_bytes (TransactionRecord number list)) ≤ 4064)
+  pub plan_length : (number : ℕ) → (1 ≤ length (record_bytes (TransactionRecord number list))) × (length (record_bytes (TransactionRecord number list)) ≤ RECORD_BYTES)
   plan_length number =
       let few : length list ≤ 2 = few_items m n.id n.store step list p.are in
       (omega (arith, sum_text number list), omega (arith, few_len number list items_are))

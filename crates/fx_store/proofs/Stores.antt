@@ -7,8 +7,11 @@ use Rattle.fx_item.specs.Item.{PlainItem}
 use Rattle.fx_item.specs.Look.{ItemMap, after, after_all, next_id, next_store, next_id_after, next_store_after}
 use Rattle.fx_plain.specs.Bare.{bare}
 use Rattle.fx_plain.specs.Table.{do_step, refused}
-use Rattle.fx_plain.specs.Tree.{Tree}
+use Rattle.fx_plain.specs.Growth.{new_nodes}
+use Rattle.fx_plain.specs.Tree.{IsCountable, Tree, node_count}
+use Rattle.fx_plain.proofs.Growth.{node_count-do_step}
 use Rattle.fx_plain.specs.declared.step.Step.{Step}
+use Rattle.fx_plain.specs.declared.step.Step.TheVariants.{Mkdir, Create, Write, Read, List as ListStep, Stat as StatStep}
 use Rattle.fx_plain.specs.declared.step.Answer.{Answer}
 use Rattle.fx_namespace.specs.Commits.{IsBelow}
 use Rattle.fx_namespace.specs.Trees as holdings
@@ -20,11 +23,12 @@ use Rattle.fx_record.proofs.Commits.{least_length}
 use Rattle.fx_history.specs.declared.entry.Entry.{Entry}
 use Rattle.fx_history.specs.History.{SettledFirst, tree_at, settle}
 use Rattle.fx_history.proofs.Histories.{tree_next}
-use Rattle.fx_history.proofs.Settling.{tree_now_settle}
+use Rattle.fx_history.proofs.Settling.{settle_length, tree_now_settle}
 use Rattle.fx_disk.specs.Seen.{DiskSeen, HasFlushed, HasWritten}
 use Rattle.fx_disk.proofs.Told.{told-map}
 use Rattle.fx_disk.specs.Steps.{IsRecordOf}
 use Rattle.fx_pool.specs.Region.{Region}
+use Rattle.fx_jblock.specs.declared.TheConstants.{RECORD_BYTES}
 use Rattle.fx_journal.specs.Ring.{RingState, IsRing, KeepsBuffers, KeepsRing, Queued, HoldsQueue, Appended, begun, blocks_out, next_block, padded, padded_by, padding, run_blocks, texts, without_first}
 use Rattle.fx_journal.specs.Writing.{block_at, first_bytes}
 use Rattle.fx_image.specs.Replay.{AreItemsOf}
@@ -40,23 +44,23 @@ use Rattle.fx_image.proofs.ReplaySteps.{after_one}
 use Rattle.fx_image.proofs.NextCommit.{id_now, store_now, below-now, id-low, store-low, next-commit}
 use Rattle.fx_disk.proofs.Made.{made-counts}
 use Rattle.fx_image.proofs.Mounted.{mounted-commit, mounted-flush-tried, mounted-padded, mounted-promised, mounted-settled, mounted-tried, mounted-written, mounted-all, settled-out}
-use Rattle.fx_script.specs.declared.script.Task.{Task}
-use Rattle.fx_store.specs.Line.{entry_of}
+use Rattle.fx_store.specs.Line.{change_entry}
 use Rattle.fx_store.specs.Mounted.{KeepsImages, KeepsWhole, Opens}
-use Rattle.fx_store.specs.Session.{KnowsNodes, IsSession, IsReady, items_now}
+use Rattle.fx_store.specs.Session.{HasNoted, KnowsNodes, IsSession, IsReadyCommit, items_now}
 use Rattle.fx_store.specs.Inside.{HasBuffers, IsStore, Undone, Done}
+use Rattle.fx_store.specs.declared.commit.Change.{Change}
 use Rattle.fx_store.specs.declared.commit.Commit.{Commit}
 use Rattle.fx_store.specs.declared.session.Session.{Session}
 use Rattle.fx_store.proofs.Planning.{done_from, plan_length}
 
 -- ---- few commits fit the ring
 
-texts-most : (blocks : List Queued) → All HasRecords blocks → length (texts blocks) ≤ 4064 * length blocks
+texts-most : (blocks : List Queued) → All HasRecords blocks → length (texts blocks) ≤ RECORD_BYTES * length blocks
 texts-most [] h = omega arith
 texts-most (q ∷ qs) h =
     omega (arith, length-append q.text (texts qs), (All-head HasRecords q qs h).room, texts-most qs (All-tail HasRecords q qs h))
 
-pub commits-few : (j : Journal) (calls : ℕ) → IsJournal j calls → length j.log.tail.text < 4064 → length j.commits.history < 2 ^ 20
+pub commits-few : (j : Journal) (calls : ℕ) → IsJournal j calls → length j.log.tail.text < RECORD_BYTES → length j.commits.history < 2 ^ 20
 commits-few j calls h short =
     omega (arith, ap length h.records.joined, length-append (texts j.log.tail.blocks) j.log.tail.text, texts-most j.log.tail.blocks h.tail.closed.records, h.tail.closed.room, h.reading.head.rules.ring_most, least_length j.opening.base j.commits.records, h.replays.one_each, short)
 
@@ -93,6 +97,14 @@ buffers-written ring new pool region h e is keeps given order = record {
   promised = ap (λ (r : RingState). r.promised) e ∙ h.promised;
 }
 
+one-node : (step : Step) → new_nodes step ≤ 1
+one-node (Mkdir path) = omega arith
+one-node (Create path) = omega arith
+one-node (Write path at text) = omega arith
+one-node (Read path at count) = omega arith
+one-node (ListStep path) = omega arith
+one-node (StatStep path) = omega arith
+
 none-begun : (text : List ℕ) → begun text ≡ 0 → text ≡ []
 none-begun [] e = refl
 none-begun (x ∷ xs) e = absurd (omega (arith, e))
@@ -112,6 +124,10 @@ module _ {seen : DiskSeen} {from : ℕ} {s : Session} {ring : RingState} {pool :
   -- the numbers of commits are low
   pub number-low : s.base + length s.history.items ≤ 2 ^ 62
   number-low = omega (arith, h.session.base, length-is, is_journal.few.few, is_journal.reading.room.commits, is_journal.reading.base_is)
+
+  -- the nodes of the tree are few
+  pub countable : IsCountable s.tree
+  countable = omega (arith, h.small, length-is, is_journal.few.few)
 
   -- the transactions stand for one tree
   pub opening-is : (opening : Tree) → Opens (txns_of s.txns) opening → opening ≡ j.opening.tree
@@ -139,8 +155,8 @@ module _ {seen : DiskSeen} {from : ℕ} {s : Session} {ring : RingState} {pool :
   -- ---- lines
 
   -- a commit is prepared: the session may note a node
-  abbrev pub store-prepared : (t : Session) → t ≡ record s { nodes = t.nodes; history = t.history } → t.history.items ≡ s.history.items → ((items : ItemMap) → IsSession items s → IsSession items t) → IsStore seen from t ring pool
-  store-prepared t e items noted = record {
+  abbrev pub store-prepared : (t : Session) → HasNoted s t → IsStore seen from t ring pool
+  store-prepared t n = let e : t ≡ record s { nodes = t.nodes; history = t.history } = n.same in record {
     journal = j;
     size_is = h.size_is;
     from_is = h.from_is;
@@ -149,13 +165,14 @@ module _ {seen : DiskSeen} {from : ℕ} {s : Session} {ring : RingState} {pool :
     session = record {
       base = ap (λ (x : Session). x.base) e ∙ h.session.base;
       txns = ap (λ (x : Session). txns_of x.txns) e ∙ h.session.txns;
-      history = items ∙ h.session.history;
+      history = n.history ∙ h.session.history;
       settled = ap (λ (x : Session). x.settled) e ∙ h.session.settled;
       tree = ap (λ (x : Session). x.tree) e ∙ h.session.tree;
-      knows = (noted (items_now j) knows).knows;
+      knows = (n.session (items_now j) knows).knows;
       id = ap (λ (x : Session). x.next.id) e ∙ h.session.id;
       store = ap (λ (x : Session). x.next.store) e ∙ h.session.store;
     };
+    small = omega (arith, h.small, ap (λ (x : Session). node_count x.tree) e, ap length n.history);
     buffers = h.buffers;
   }
 
@@ -167,17 +184,20 @@ module _ {seen : DiskSeen} {from : ℕ} {s : Session} {ring : RingState} {pool :
         size_is = h.size_is;
         from_is = h.from_is;
         opens = h.opens;
-        mounted = mounted-promised j seen.calls seen.told ring pool h.mounted new region ring.promised new.buffers u.ring_is u.queue;
+        mounted = mounted-promised j seen ring pool h.mounted new region ring.promised new.buffers u.ring_is u.queue;
         session = h.session;
+        small = h.small;
         buffers = u.buffers;
       })
 
   -- it is done
-  module _ (step : Step) (commit : Commit) (t : Session) (new : RingState) (region : Region) (d : Done step commit s t ring new pool region) (ready : IsReady (items_now j) s.nodes s.next step commit)
-      (number : commit.entry.number ≡ s.base + length s.history.items + 1) (settled : commit.entry.settled ≡ 0) (who : 0 < commit.entry.who) (one : commit.entry.steps ≡ step ∷ [])
-      (done : refused (do_step s.tree step).0 ≡ None) where
+  module _ (change : Change) (commit : Commit) (t : Session) (new : RingState) (region : Region) (d : Done change commit s t ring new pool region) (ready : IsReadyCommit (items_now j) s.nodes s.next change.step commit)
+      (number : commit.number ≡ s.base + length s.history.items + 1) (who : 0 < change.client) (done : refused (do_step s.tree change.step).0 ≡ None) where
+    abbrev step : Step
+    step = change.step
+
     abbrev entry : Entry
-    entry = commit.entry
+    entry = change_entry commit.number change
 
     abbrev list : List PlainItem
     list = ready.list
@@ -209,7 +229,7 @@ module _ {seen : DiskSeen} {from : ℕ} {s : Session} {ring : RingState} {pool :
     tree-more : (do_step s.tree step).1 ≡ tree_at j.opening.tree (j.commits.history ++ entry ∷ []) (j.opening.base + length (j.commits.history ++ entry ∷ []))
     tree-more =
         ap (λ (x : Tree). (do_step x step).1) h.session.tree
-        ∙ sym (after_one (tree_at j.opening.tree j.commits.history (j.opening.base + length j.commits.history)) entry step answer.0 one done-there)
+        ∙ sym (after_one (tree_at j.opening.tree j.commits.history (j.opening.base + length j.commits.history)) entry step answer.0 refl done-there)
         ∙ sym (tree_next j.opening.tree j.opening.base j.commits.history entry is_journal.legal numbered)
 
     pub store-done : IsStore seen from t new region
@@ -218,8 +238,8 @@ module _ {seen : DiskSeen} {from : ℕ} {s : Session} {ring : RingState} {pool :
       size_is = h.size_is;
       from_is = h.from_is;
       opens = h.opens;
-      mounted = mounted-commit j seen.calls seen.told ring pool h.mounted entry list
-          (next-commit j seen.calls is_journal entry step list answer.0 (commits-few j seen.calls is_journal (omega (arith, h.buffers.ring_is.unfinished_room, ap length h.mounted.ring_is.text))) numbered settled who one done-there are)
+      mounted = mounted-commit j seen ring pool h.mounted entry list
+          (next-commit j seen.calls is_journal entry step list answer.0 (commits-few j seen.calls is_journal (omega (arith, h.buffers.ring_is.unfinished_room, ap length h.mounted.ring_is.text))) numbered refl who refl done-there are)
           new region d.buffers.ring_is d.start d.size d.epoch d.queued appended;
       session = record {
         base = ap (λ (x : Session). x.base) d.session ∙ h.session.base;
@@ -231,6 +251,7 @@ module _ {seen : DiskSeen} {from : ℕ} {s : Session} {ring : RingState} {pool :
         id = ap (λ (x : Session). x.next.id) d.session ∙ ready.plan.id ∙ ap (λ (n : ℕ). next_id n list) h.session.id ∙ sym (next_id_after-more j.log.head.super.next_id (lists_of j.opening.txns ++ j.commits.records) list) ∙ ap (next_id_after j.log.head.super.next_id) lists-more;
         store = ap (λ (x : Session). x.next.store) d.session ∙ ready.plan.store ∙ ap (λ (n : ℕ). next_store n list) h.session.store ∙ sym (next_store_after-more j.log.head.super.next_store (lists_of j.opening.txns ++ j.commits.records) list) ∙ ap (next_store_after j.log.head.super.next_store) lists-more;
       };
+      small = omega (arith, h.small, ap (λ (x : Session). node_count x.tree) d.session, node_count-do_step s.tree step, one-node step, ap length d.history, length-append s.history.items (entry ∷ []));
       buffers = d.buffers;
     }
 
@@ -243,8 +264,9 @@ module _ {seen : DiskSeen} {from : ℕ} {s : Session} {ring : RingState} {pool :
     size_is = h.size_is;
     from_is = h.from_is;
     opens = h.opens;
-    mounted = mounted-padded j seen.calls seen.told ring pool h.mounted new region kept.ring e (queue (drop j.log.tail.written j.log.tail.blocks) h.mounted.ring_is.queue);
+    mounted = mounted-padded j seen ring pool h.mounted new region kept.ring e (queue (drop j.log.tail.written j.log.tail.blocks) h.mounted.ring_is.queue);
     session = record { base = h.session.base; txns = h.session.txns; history = h.session.history; settled = h.session.settled; tree = h.session.tree; knows = h.session.knows; id = h.session.id; store = h.session.store };
+    small = h.small;
     buffers = buffers-padded ring new pool region h.buffers e kept.ring kept.buffers out kept.others.order;
   }
 
@@ -261,8 +283,9 @@ module _ {seen : DiskSeen} {from : ℕ} {s : Session} {ring : RingState} {pool :
         size_is = h.size_is ∙ sym wrote.size;
         from_is = h.from_is;
         opens = h.opens;
-        mounted = mounted-tried j seen.calls seen.told ring pool h.mounted seen.size is later.told later.calls later.last_made good before sequence next wrote.made;
+        mounted = mounted-tried j seen ring pool h.mounted is later good before sequence next wrote;
         session = h.session;
+        small = h.small;
         buffers = h.buffers;
       }
 
@@ -273,8 +296,9 @@ module _ {seen : DiskSeen} {from : ℕ} {s : Session} {ring : RingState} {pool :
         size_is = h.size_is ∙ sym wrote.size;
         from_is = h.from_is;
         opens = h.opens;
-        mounted = mounted-written j seen.calls seen.told ring pool h.mounted seen.size is later.told later.calls later.last_made good before sequence next wrote.made was_good new region e (queue (drop j.log.tail.written j.log.tail.blocks) h.mounted.ring_is.queue);
+        mounted = mounted-written j seen ring pool h.mounted is later good before sequence next wrote was_good new region e (queue (drop j.log.tail.written j.log.tail.blocks) h.mounted.ring_is.queue);
         session = record { base = h.session.base; txns = h.session.txns; history = h.session.history; settled = h.session.settled; tree = h.session.tree; knows = h.session.knows; id = h.session.id; store = h.session.store };
+        small = h.small;
         buffers = buffers-written ring new pool region h.buffers e kept.ring kept.buffers given kept.others.order;
       }
 
@@ -286,8 +310,9 @@ module _ {seen : DiskSeen} {from : ℕ} {s : Session} {ring : RingState} {pool :
         size_is = h.size_is ∙ sym w.size;
         from_is = h.from_is;
         opens = h.opens;
-        mounted = mounted-flush-tried j seen.calls seen.told ring pool h.mounted seen.size is later.told later.calls later.last_made good w.made;
+        mounted = mounted-flush-tried j seen ring pool h.mounted is later good w;
         session = h.session;
+        small = h.small;
         buffers = h.buffers;
       }
 
@@ -302,15 +327,15 @@ module _ {seen : DiskSeen} {from : ℕ} {s : Session} {ring : RingState} {pool :
         abbrev flushed : Journal
         flushed = with_settled (seen.calls + 1) j
 
-        mounted-now : IsMounted flushed later.calls later.told ring pool
-        mounted-now = mounted-settled j seen.calls seen.told ring pool h.mounted seen.size is later.told later.calls later.last_made good w.made was_good out
+        mounted-now : IsMounted flushed later ring pool
+        mounted-now = mounted-settled j seen ring pool h.mounted is later good w was_good out
 
-        counted-is : later.calls ≡ seen.calls + 1
-        counted-is = made-counts seen.calls later.calls later.last_made good _ _ was_good w.made
+        pub store-counted : later.calls ≡ seen.calls + 1
+        store-counted = made-counts seen.calls later.calls later.last_made good _ _ was_good w.made
 
         module _ (t : Session) (e : t ≡ record s { settled = length s.history.items; history = t.history }) (items : t.history.items ≡ settle later.calls s.history.items) where
           history-is : t.history.items ≡ settle (seen.calls + 1) j.commits.history
-          history-is = items ∙ ap (λ (n : ℕ). settle n s.history.items) counted-is ∙ ap (settle (seen.calls + 1)) h.session.history
+          history-is = items ∙ ap (λ (n : ℕ). settle n s.history.items) store-counted ∙ ap (settle (seen.calls + 1)) h.session.history
 
           pub store-settled : IsStore later from t ring pool
           store-settled = record {
@@ -329,6 +354,7 @@ module _ {seen : DiskSeen} {from : ℕ} {s : Session} {ring : RingState} {pool :
               id = ap (λ (x : Session). x.next.id) e ∙ h.session.id;
               store = ap (λ (x : Session). x.next.store) e ∙ h.session.store;
             };
+            small = omega (arith, h.small, ap (λ (x : Session). node_count x.tree) e, ap length items, settle_length later.calls s.history.items);
             buffers = h.buffers;
           }
 
@@ -341,7 +367,7 @@ module _ {seen : DiskSeen} {from : ℕ} {s : Session} {ring : RingState} {pool :
               (subst (λ (x : Tree). KeepsAll j.log.size j.log.from x s.base t.history.items r) (sym (opening-is opening opens))
               (subst (λ (n : ℕ). KeepsAll j.log.size j.log.from j.opening.tree n t.history.items r) (sym h.session.base)
               (subst (λ (es : List Entry). KeepsAll j.log.size j.log.from j.opening.tree j.opening.base es r) (sym history-is) all)))))
-              (mounted-all flushed later.calls later.told ring pool mounted-now (settled-out (seen.calls + 1) j out) refl)
+              (mounted-all flushed later ring pool mounted-now (settled-out (seen.calls + 1) j out) refl)
 
           pub store-whole : IfSome later.told (KeepsWhole later.size from (txns_of t.txns) t.base t.history.items)
           store-whole =
@@ -389,27 +415,24 @@ module _ {seen : DiskSeen} {from : ℕ} {s : Session} {ring : RingState} {pool :
 
 -- ---- a line that changes the tree
 
-module _ {seen : DiskSeen} {from : ℕ} {s : Session} {ring : RingState} {pool : Region} (h : IsStore seen from s ring pool) (task : Task) (step : Step)
-    (t : Session) (same : t ≡ record s { nodes = t.nodes; history = t.history }) (items : t.history.items ≡ s.history.items) (noted : (m : ItemMap) → IsSession m s → IsSession m t)
-    (commit : Commit) (entry_is : commit.entry ≡ entry_of (s.base + length s.history.items + 1) task step) (ready : (m : ItemMap) → IsSession m s → IsReady m t.nodes t.next step commit) where
-  abbrev is_ready : IsReady (items_now h.journal) t.nodes t.next step commit
+module _ {seen : DiskSeen} {from : ℕ} {s : Session} {ring : RingState} {pool : Region} (h : IsStore seen from s ring pool) (change : Change) (t : Session) (n : HasNoted s t)
+    (commit : Commit) (number : commit.number ≡ s.base + length s.history.items + 1) (ready : (m : ItemMap) → IsSession m s → IsReadyCommit m t.nodes t.next change.step commit) where
+  abbrev is_ready : IsReadyCommit (items_now h.journal) t.nodes t.next change.step commit
   is_ready = ready (items_now h.journal) (knows h)
 
   -- its record fits one block
-  pub prepared-length : (1 ≤ length commit.record.items) × (length commit.record.items ≤ 4064)
+  pub prepared-length : (1 ≤ length commit.record.items) × (length commit.record.items ≤ RECORD_BYTES)
   prepared-length =
       let r = is_ready in
-      let l = plan_length (items_now h.journal) t.tree t.nodes t.next (noted (items_now h.journal) (knows h)) step r.list commit.next r.plan commit.entry.number in
+      let l = plan_length (items_now h.journal) t.tree t.nodes t.next (n.session (items_now h.journal) (knows h)) change.step r.list commit.next r.plan commit.number in
       (omega (arith, l.0, ap length r.bytes), omega (arith, l.1, ap length r.bytes))
 
-  pub prepared-done : (u : Session) (new : RingState) (region : Region) → Done step commit t u ring new pool region → 0 < task.client → refused (do_step s.tree step).0 ≡ None → IsStore seen from u new region
+  pub prepared-done : (u : Session) (new : RingState) (region : Region) → Done change commit t u ring new pool region → 0 < change.client → refused (do_step s.tree change.step).0 ≡ None → IsStore seen from u new region
   prepared-done u new region d client done =
-      store-done (store-prepared h t same items noted) step commit u new region d is_ready
-      (ap (λ (x : Entry). x.number) entry_is ∙ omega (arith, ap (λ (x : Session). x.base) same, ap length items))
-      (ap (λ (x : Entry). x.settled) entry_is)
-      (omega (arith, client, ap (λ (x : Entry). x.who) entry_is))
-      (ap (λ (x : Entry). x.steps) entry_is)
-      (ap (λ (x : Session). refused (do_step x.tree step).0) same ∙ done)
+      store-done (store-prepared h t n) change commit u new region d is_ready
+      (number ∙ omega (arith, ap (λ (x : Session). x.base) n.same, ap length n.history))
+      client
+      (ap (λ (x : Session). refused (do_step x.tree change.step).0) n.same ∙ done)
 
   pub prepared-undone : (u : Session) (new : RingState) (region : Region) → Undone t u ring new pool region → IsStore seen from u new region
-  prepared-undone = store-undone (store-prepared h t same items noted)
+  prepared-undone = store-undone (store-prepared h t n)

@@ -1,8 +1,8 @@
--- What a mounted disk keeps inside: its session, and the ring with the pool of its buffers, are those of one
--- journal.
+-- What a mounted disk keeps inside: its session, and the ring with the pool of its buffers, are
+-- those of one journal.
 use Rattle.std.specs.Prelude.{◌≡◌, ℕ, ◌+◌, ◌^◌, ◌≤◌, ◌<◌, List, [], ◌∷◌, ◌++◌, length}
 use Rattle.fx_plain.specs.Table.{do_step}
-use Rattle.fx_plain.specs.declared.step.Step.{Step}
+use Rattle.fx_plain.specs.Tree.{node_count}
 use Rattle.fx_disk.specs.Seen.{DiskSeen}
 use Rattle.fx_pool.specs.Region.{Region}
 use Rattle.fx_journal.specs.Ring.{RingState, IsRing, KeepsBuffers, Queued, HoldsQueue, Appended, blocks_out, live}
@@ -11,12 +11,16 @@ use Rattle.fx_image.specs.Standing.{StandsFor, items_after}
 use Rattle.fx_image.specs.Journal.{Journal}
 use Rattle.fx_image.specs.Mounted.{IsMounted}
 use Rattle.fx_store.specs.Session.{IsSessionOf}
+use Rattle.fx_store.specs.Line.{change_entry}
+use Rattle.fx_store.specs.declared.commit.Change.{Change}
 use Rattle.fx_store.specs.declared.commit.Commit.{Commit}
+use Rattle.fx_store.specs.declared.opening.TheConstants.{MAX_OPENING_NODES}
 use Rattle.fx_store.specs.declared.put.PutEnd.{PutEnd}
 use Rattle.fx_store.specs.declared.put.PutEnd.TheVariants as ends
 use Rattle.fx_store.specs.declared.session.Session.{Session}
 
--- The ring has its buffers out of the pool, which has one more for each of its blocks. Nothing is promised.
+-- The ring has its buffers out of the pool, which has one more for each of its blocks. Nothing is
+-- promised.
 pub record HasBuffers (ring : RingState) (pool : Region) : Type 0 where
   pub ring_is : IsRing ring
   pub buffers : KeepsBuffers ring.buffers pool
@@ -31,8 +35,9 @@ pub record IsStore (seen : DiskSeen) (from : ℕ) (s : Session) (ring : RingStat
   pub size_is : journal.log.size ≡ seen.size
   pub from_is : journal.log.from ≡ from
   pub opens : StandsFor (items_after journal.opening.txns) journal.opening.tree
-  pub mounted : IsMounted journal seen.calls seen.told ring pool
+  pub mounted : IsMounted journal seen ring pool
   pub session : IsSessionOf journal s
+  pub small : node_count s.tree ≤ MAX_OPENING_NODES + length s.history.items
   pub buffers : HasBuffers ring pool
 
 -- ---- a commit that is ready is done, or refused
@@ -50,11 +55,14 @@ pub record Undone (s t : Session) (ring new : RingState) (pool region : Region) 
   pub buffers : HasBuffers new region
 
 -- The step is done, the history has the entry, and the record's bytes were appended.
-pub record Done (step : Step) (commit : Commit)
+pub record Done (change : Change) (commit : Commit)
     (s t : Session) (ring new : RingState) (pool region : Region) : Type 0 where
-  pub session :
-      t ≡ record s { tree = (do_step s.tree step).1; history = t.history; next = commit.next }
-  pub history : t.history.items ≡ s.history.items ++ commit.entry ∷ []
+  pub session : t ≡ record s {
+    tree = (do_step s.tree change.step).1;
+    history = t.history;
+    next = commit.next;
+  }
+  pub history : t.history.items ≡ s.history.items ++ change_entry commit.number change ∷ []
   pub appended : (queue : List Queued) → HoldsQueue ring pool queue
       → Appended ring new region queue commit.record.items
   pub queued : new.queued + ring.closed ≡ ring.queued + new.closed
@@ -66,9 +74,10 @@ pub record Done (step : Step) (commit : Commit)
   pub live_stays : live ring ≤ live new
   pub live_rises : live new ≤ live ring + 1
 
-abbrev pub Puts : Step → Commit → (s t : Session) → (ring new : RingState) → (pool region : Region)
-    → PutEnd → Type 0
-Puts step commit s t ring new pool region ends.Done = Done step commit s t ring new pool region
-Puts step commit s t ring new pool region (ends.Full full) =
+abbrev pub Puts : Change → Commit → (s t : Session) → (ring new : RingState)
+    → (pool region : Region) → PutEnd → Type 0
+Puts change commit s t ring new pool region ends.Done =
+    Done change commit s t ring new pool region
+Puts change commit s t ring new pool region (ends.Full full) =
     Undone s t ring new pool region × IsFull ring full
-Puts step commit s t ring new pool region ends.OutOfMemory = Undone s t ring new pool region
+Puts change commit s t ring new pool region ends.OutOfMemory = Undone s t ring new pool region

@@ -1,24 +1,30 @@
--- What a line puts into the history, how one that looks at the tree ends, and how often a line flushes.
+-- What a line puts into the history, how one that looks at the tree ends, and how often a line
+-- flushes.
 use Rattle.std.specs.Prelude.{◌≡◌, ℕ, [], ◌∷◌, Result, Ok, Err}
-use Rattle.fx_plain.specs.declared.step.Step.{Step}
 use Rattle.fx_plain.specs.declared.step.Answer.{Answer}
 use Rattle.fx_plain.specs.declared.step.Refusal.{Refusal}
 use Rattle.fx_script.specs.declared.line.Line.{Line}
 use Rattle.fx_script.specs.declared.line.Line.TheVariants.{Single, Sync}
 use Rattle.fx_script.specs.declared.script.Task.{Task}
 use Rattle.fx_history.specs.declared.entry.Entry.{Entry}
+use Rattle.fx_store.specs.declared.commit.Change.{Change}
 use Rattle.fx_history.specs.declared.outcome.EndKind.{EndKind}
 use Rattle.fx_history.specs.declared.outcome.EndKind.TheVariants.{Committed, Seen, Refused, Full, Synced, DeviceFault, OutOfMemory}
 
--- the commit of a line with this step
-abbrev pub entry_of : ℕ → Task → Step → Entry
-entry_of number task step = record {
+-- the entry of the history for a line that changes the tree, under this number
+abbrev pub change_entry : ℕ → Change → Entry
+change_entry number change = record {
   number = number;
-  who = task.client;
-  line = task.number;
-  steps = step ∷ [];
+  who = change.client;
+  line = change.line;
+  steps = change.step ∷ [];
   settled = 0;
 }
+
+-- the line itself
+abbrev pub change_task : Change → Task
+change_task change =
+    record { client = change.client; number = change.line; line = Single change.step }
 
 -- A line whose one step has this outcome on the tree ends so, unless memory runs out.
 abbrev pub EndsAs : Result Answer Refusal → EndKind → Type 0

@@ -1,16 +1,15 @@
 //! What a line that changes the tree puts into the history and the journal.
-ghost use Rattle.std.specs.Prelude.{◌≡◌, ◌+◌, ◌<◌, ◌^◌, IfOk, if◌then◌else◌};
+ghost use Rattle.std.specs.Prelude.{◌≡◌, ◌+◌, ◌<◌, ◌^◌, [], IfOk, vec_capacity, vec_len, if◌then◌else◌};
 ghost use Rattle.fx_item.specs.Item.{items_of, value_of};
 ghost use Rattle.fx_record.specs.Record.{TransactionRecord, IsRecord, record_bytes};
 ghost use Rattle.fx_namespace.specs.Nodes.{is_root};
 ghost use Rattle.fx_namespace.specs.Commits.{id_then, new_items, new_value, store_then, written_items};
-ghost use Rattle.fx_store.specs.Line.{entry_of};
+ghost use Rattle.fx_store.specs.Line.{change_entry};
 
 use fx_history::Entry;
 use fx_item::{Item, Items, Key, LockKey, Name, Value};
 use fx_plain::{Kind, Step, Steps};
 use fx_record::{Record, encode_record};
-use fx_script::Task;
 use std::alloc::{AllocError, Global};
 
 /// The most bytes of a record of one or two items: 317 for a name of 255 bytes.
@@ -30,32 +29,42 @@ pub(crate) struct Plan {
     pub(crate) next: Numbers,
 }
 
-/// A commit that is ready: its entry, its record's bytes, and the next numbers after it.
+/// A line whose one step changes the tree, and who sent it.
+#[derive(Drop)]
+pub(crate) struct Change {
+    pub(crate) client: u32,
+    /// The number of the line.
+    pub(crate) line: u32,
+    pub(crate) step: Step,
+}
+
+/// A commit that is ready: its number, room for its step in its entry, its record's bytes, and the
+/// next numbers after it.
 #[derive(Drop)]
 pub(crate) struct Commit {
-    pub(crate) entry: Entry,
+    pub(crate) number: u64,
+    pub(crate) room: Vec<Step>,
     pub(crate) record: Vec<u8>,
     pub(crate) next: Numbers,
 }
 
-/// The commit of a line with this step.
-pub(crate) fn entry_of(
-    alloc: Global,
-    number: u64,
-    task: &Task,
-    step: &Step,
-) -> Result<Entry, AllocError>
-    ensures { IfOk result (λ entry. entry ≡ entry_of number task.now step.now) }
-{
-    let mut items = Vec::with_capacity(alloc, 1)?;
-    items.push(step.clone()?)?;
-    Ok(Entry {
-        number,
-        who: task.client,
-        line: task.number,
-        steps: Steps::new(items),
-        settled: 0,
-    })
+impl Change {
+    /// The entry of the history, which takes the step over into the room for it.
+    pub(crate) fn entry(self, number: u64, room: Vec<Step>) -> Entry
+        requires empty { room.items ≡ [] }
+        requires room { vec_len room < vec_capacity room }
+        ensures { result ≡ change_entry number self }
+    {
+        let mut steps = room;
+        steps.push_reserved(self.step);
+        Entry {
+            number,
+            who: self.client,
+            line: self.line,
+            steps: Steps::new(steps),
+            settled: 0,
+        }
+    }
 }
 
 /// Whether the node is the root.
@@ -66,8 +75,8 @@ fn is_root(node: LockKey) -> bool
 }
 
 impl Numbers {
-    /// The node that a new child of this directory is: in the root a store of its own, elsewhere the
-    /// next id.
+    /// The node that a new child of this directory is: in the root a store of its own, elsewhere
+    /// the next id.
     pub(crate) fn child_of(self, parent: LockKey) -> LockKey
         ensures { result ≡ (if is_root parent then record { store = self.store; id = 0 }
             else record { store = parent.store; id = self.id }) }
@@ -146,8 +155,8 @@ pub(crate) fn new_node(
     Ok(Items::new(items))
 }
 
-/// The items of a file that was written: its Object, whose length stays 0 while contents are not kept on
-/// the disk.
+/// The items of a file that was written: its Object, whose length stays 0 while contents are not
+/// kept on the disk.
 pub(crate) fn same_file(alloc: Global, node: LockKey) -> Result<Items, AllocError>
     ensures { IfOk result (λ items. items_of items ≡ written_items node) }
 {

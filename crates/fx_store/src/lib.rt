@@ -10,5 +10,5 @@ mod session;
 mod store;
 
 pub use nodes::NodeMap;
-pub use opening::{BeginFault, Contents, Found, NotBegun, start_of};
+pub use opening::{BeginFault, Contents, Found, MAX_OPENING_NODES, NotBegun, start_of};
 pub use store::{Mark, Store, StoreEnd};

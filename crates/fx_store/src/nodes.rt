@@ -8,8 +8,8 @@ use std::alloc::{AllocError, Global};
 use std::collections::BTreeMap;
 use std::marker::Model;
 
-/// The node that each path leads to, in a sorted map. A path that leads nowhere may have an entry too,
-/// which nobody asks for.
+/// The node that each path leads to, in a sorted map. A path that leads nowhere may have an entry
+/// too, which nobody asks for.
 #[derive(Drop)]
 pub struct NodeMap {
     entries: BTreeMap<Vec<Name>, LockKey>,

@@ -1,12 +1,11 @@
 //! What a store begins with, and its beginning.
-ghost use Rattle.std.specs.Prelude.{◌≡◌, ◌+◌, ◌^◌, ◌≤◌, [], true, false, IfOk, IfErr};
+ghost use Rattle.std.specs.Prelude.{◌≡◌, ◌+◌, ◌≤◌, [], IfOk, IfErr};
 ghost use Rattle.fx_super.specs.Super.{fields_of};
-ghost use Rattle.fx_disk.specs.Seen.{DiskSeen, GoesOn, HasCalled, HasFailedLast};
-ghost use Rattle.fx_pool.specs.Region.{IsSound};
-ghost use Rattle.fx_journal.specs.Ring.{blocks_out};
+ghost use Rattle.fx_super.specs.declared.superblock.TheConstants.{MAX_RING};
+ghost use Rattle.fx_disk.specs.Seen.{DiskSeen, GoesOn};
 ghost use Rattle.fx_log.specs.Chosen.{start_of};
 ghost use Rattle.fx_store.specs.Mounted.{LeavesImages, LeavesOpening};
-ghost use Rattle.fx_store.specs.Opening.{CanBegin, HasBegun, IsPrepared, IsRead, disk_left, read_of};
+ghost use Rattle.fx_store.specs.Opening.{CanBegin, HasBegun, IsBeginCause, IsPoolFor, IsPrepared, IsRead, disk_left, read_from};
 
 use crate::nodes::NodeMap;
 use crate::raise::raise;
@@ -20,6 +19,10 @@ use fx_pool::Pool;
 use fx_record::Txns;
 use fx_super::{Super, Which};
 use std::alloc::{AllocError, Global};
+
+/// The most nodes of the tree that a store begins with, the root among them. A ring has fewer
+/// bytes.
+pub const MAX_OPENING_NODES: usize = 1 << 22;
 
 /// The chosen superblock of a disk, and where it stands.
 #[derive(Clone, Copy, Debug)]
@@ -74,7 +77,8 @@ pub fn start_of(sup: &Super) -> Start
     }
 }
 
-/// All memory that a store begins with: its session, and the journal's ring with the pool of its buffers.
+/// All memory that a store begins with: its session, and the journal's ring with the pool of its
+/// buffers.
 pub(crate) struct Prepared {
     session: Session,
     ring: Ring,
@@ -83,26 +87,18 @@ pub(crate) struct Prepared {
 
 /// The pool for the buffers of a ring of so many blocks: the least with one more.
 fn pool_for(alloc: Global, ring: u32) -> Result<Pool, AllocError>
-    requires { ring ≤ 1024 }
-    ensures sound { IfOk result IsSound }
-    ensures free { IfOk result (λ pool. blocks_out pool ≡ 0) }
-    ensures enough { IfOk result (λ pool. ring + 1 ≤ 2 ^ pool.order) }
+    requires { ring ≤ MAX_RING }
+    ensures { IfOk result (IsPoolFor ring) }
 {
-    let mut order = 9;
-    if 511 < ring {
-        order = 10;
-    }
-    if 1023 < ring {
-        order = 11;
-    }
-    Pool::new(alloc, order)
+    let order = u32::BITS - ring.leading_zeros();
+    Pool::new(alloc, order as u8)
 }
 
 /// Takes the memory that a store begins with.
 fn prepare(alloc: Global, sup: &Super, contents: Contents) -> Result<Prepared, AllocError>
     requires { (seen : DiskSeen) × IsRead seen (fields_of sup.now) contents }
     ensures { (seen : DiskSeen) → (is : IsRead seen (fields_of sup.now) contents) →
-        IfOk result (λ p. IsPrepared seen.size (fields_of sup.now) (read_of contents is.blocks)
+        IfOk result (λ p. IsPrepared seen.size (fields_of sup.now) (read_from contents is.blocks)
         p.session p.ring p.pool) }
 {
     let pool = pool_for(alloc, sup.ring)?;
@@ -123,8 +119,8 @@ fn prepare(alloc: Global, sup: &Super, contents: Contents) -> Result<Prepared, A
 
 impl<D: Disk> Store<D> {
     /// Begins a store on a disk of which this was read: takes all memory, then writes the chosen
-    /// superblock with the next generation over the other one, and flushes. So it makes one write and
-    /// one flush, or none where memory is refused.
+    /// superblock with the next generation over the other one, and flushes. So it makes one write
+    /// and one flush, or none where memory is refused.
     pub fn begin(
         alloc: Global,
         disk: D,
@@ -132,18 +128,17 @@ impl<D: Disk> Store<D> {
         contents: Contents,
     ) -> Result<Store<D>, NotBegun<D>>
         requires { CanBegin (D.seen disk) found.now contents }
-        ensures begun { IfOk result (HasBegun (D.seen disk) found.now contents) }
-        ensures two { IfOk result (λ store. ((D.seen store.disk).calls ≡ (D.seen disk).calls + 2)
-            × HasCalled (D.seen disk) (D.seen store.disk) true) }
+        ensures begun { IfOk result (λ store.
+            HasBegun (D.seen disk) (D.seen store.disk) found.now contents store) }
 
-        // What a stop may leave, and that every image left now has the superblock of the next generation.
+        // What a stop may leave, and that every image left now has the superblock of the next
+        // generation.
         ensures images { IfOk result (λ store. LeavesImages (D.seen store.disk) store []) }
 
-        // Want of memory comes before the disk is touched. A fault is that of the call that was last
-        // asked for.
-        ensures memory { IfErr result (λ un. un.fault ≡ BeginFault.OutOfMemory → un.disk ≡ disk) }
-        ensures device { IfErr result (λ un. un.fault ≡ BeginFault.Device →
-            HasCalled (D.seen disk) (D.seen un.disk) false × HasFailedLast (D.seen un.disk)) }
+        // Want of memory comes before the disk is touched. A fault is that of the call that was
+        // last asked for.
+        ensures cause { IfErr result (λ un.
+            IsBeginCause disk (D.seen disk) un (D.seen un.disk) un.fault) }
         ensures opening { IfErr result (λ un. LeavesOpening (D.seen disk).calls (D.seen un.disk)) }
         ensures few { (D.seen (disk_left result)).calls ≤ (D.seen disk).calls + 2 }
         ensures goes { GoesOn (D.seen disk) (D.seen (disk_left result)) }

@@ -1,31 +1,31 @@
 //! Raising the generation of the superblock.
-ghost use Rattle.std.specs.Prelude.{◌≡◌, ◌+◌, ◌≤◌, OnOk, OnErr, is_ok};
+ghost use Rattle.std.specs.Prelude.{◌+◌, ◌≤◌, OnOk, is_ok};
 ghost use Rattle.std.specs.Option.{IfSome};
-ghost use Rattle.fx_disk.specs.Seen.{HasCalled, HasFailedLast};
 ghost use Rattle.fx_super.specs.Super.{Fields, IsSuper, KeepsRules, fields_of};
 ghost use Rattle.fx_super.specs.declared.superblock.TheConstants.{MAX_GENERATION};
 ghost use Rattle.fx_log.specs.Chosen.{next_generation};
 ghost use Rattle.fx_log.specs.Raising.{ChoosesNext};
-ghost use Rattle.fx_store.specs.Opening.{Raises, TellsChosen};
+ghost use Rattle.fx_store.specs.Opening.{MakesCalls, Raises, TellsChosen};
 
 use crate::opening::Found;
-use fx_base::zero_block;
+use fx_base::{BLOCK_BYTES, zero_block};
 use fx_disk::{Disk, DiskFailed};
 use fx_super::{Super, Which, encode_super};
 
 /// Writes a superblock, which is that of the next generation, over the one that is not chosen, and
 /// flushes.
-fn put_super<D: Disk>(disk: &mut D, chosen: Which, block: &[u8; 4096]) -> Result<(), DiskFailed>
+fn put_super<D: Disk>(
+    disk: &mut D,
+    chosen: Which,
+    block: &[u8; BLOCK_BYTES],
+) -> Result<(), DiskFailed>
     requires { 2 ≤ (D.seen disk.old).size }
     ensures raises { (f : Fields) → IsSuper block.now (next_generation f) →
         TellsChosen (D.seen disk.old) chosen f → Raises (D.seen disk.old) (D.seen disk.new) f }
     ensures next { OnOk result ((f : Fields) → IsSuper block.now (next_generation f) →
         TellsChosen (D.seen disk.old) chosen f →
         IfSome (D.seen disk.new).told (ChoosesNext (D.seen disk.old).calls)) }
-    ensures two { OnOk result ((D.seen disk.new).calls ≡ (D.seen disk.old).calls + 2) }
-    ensures few { (D.seen disk.new).calls ≤ (D.seen disk.old).calls + 2 }
-    ensures last { OnErr result (HasFailedLast (D.seen disk.new)) }
-    ensures called { HasCalled (D.seen disk.old) (D.seen disk.new) (is_ok result) }
+    ensures two { MakesCalls 2 (D.seen disk.old) (D.seen disk.new) (is_ok result) }
 {
     disk.write(chosen.other().block() as u32, block)?;
     disk.flush()
@@ -40,10 +40,7 @@ pub(crate) fn raise<D: Disk>(disk: &mut D, found: &Found) -> Result<(), DiskFail
     ensures raises { Raises (D.seen disk.old) (D.seen disk.new) (fields_of found.now.sup) }
     ensures next { OnOk result
         (IfSome (D.seen disk.new).told (ChoosesNext (D.seen disk.old).calls)) }
-    ensures two { OnOk result ((D.seen disk.new).calls ≡ (D.seen disk.old).calls + 2) }
-    ensures few { (D.seen disk.new).calls ≤ (D.seen disk.old).calls + 2 }
-    ensures last { OnErr result (HasFailedLast (D.seen disk.new)) }
-    ensures called { HasCalled (D.seen disk.old) (D.seen disk.new) (is_ok result) }
+    ensures two { MakesCalls 2 (D.seen disk.old) (D.seen disk.new) (is_ok result) }
 {
     let next = Super {
         generation: found.sup.generation + 1,

@@ -3,18 +3,18 @@ ghost use Rattle.std.specs.Prelude.{◌≡◌, List, ℕ, ◌+◌, ◌<◌, ◌�
 ghost use Rattle.fx_item.specs.Item.{items_of};
 ghost use Rattle.fx_item.specs.Look.{ItemMap};
 ghost use Rattle.fx_plain.specs.Table.{do_step, is_reading, refused};
+ghost use Rattle.fx_plain.specs.Tree.{IsCountable};
 ghost use Rattle.fx_script.specs.Print.{IsPath, StepKeepsRules};
 ghost use Rattle.fx_history.specs.History.{SettledFirst, settle};
-ghost use Rattle.fx_store.specs.Line.{EndsAs, entry_of, settled_entry};
-ghost use Rattle.fx_store.specs.Session.{IsPlan, IsReady, IsSession, new_step};
+ghost use Rattle.fx_store.specs.Line.{EndsAs, change_entry, settled_entry};
+ghost use Rattle.fx_store.specs.Session.{BeginsWith, HasNoted, HasEntryRoom, IsPlan, IsReadyCommit, IsSession, new_step};
 
-use crate::commit::{Commit, Numbers, Plan, entry_of, new_node, record_of, same_file};
+use crate::commit::{Change, Commit, Numbers, Plan, new_node, record_of, same_file};
 use crate::nodes::NodeMap;
 use crate::opening::Contents;
 use fx_history::{EndKind, Entry, History, Outcome};
 use fx_plain::{Kind, Path, Plain, Refusal, Step};
 use fx_record::Txns;
-use fx_script::Task;
 use std::alloc::{AllocError, Global};
 
 /// The tree, the node of each path, and the commits.
@@ -52,13 +52,7 @@ fn settle_from(entries: &mut [Entry], from: usize, calls: u64)
 impl Session {
     /// The session of what was read of a journal.
     pub(crate) fn of(alloc: Global, contents: Contents) -> Session
-        ensures base { result.base ≡ contents.base }
-        ensures txns { result.txns ≡ contents.txns }
-        ensures tree { result.tree ≡ contents.tree }
-        ensures nodes { result.nodes ≡ contents.nodes }
-        ensures history { result.history.items ≡ [] }
-        ensures settled { result.settled ≡ 0 }
-        ensures next { result.next ≡ record { id = contents.next_id; store = contents.next_store } }
+        ensures { BeginsWith contents result }
     {
         Session {
             base: contents.base,
@@ -85,6 +79,7 @@ impl Session {
     /// Does a line whose one step looks at the tree.
     pub(crate) fn look(&mut self, alloc: Global, step: &Step) -> Outcome
         requires few { self.old.base + vec_len self.old.history < 2 ^ 64 }
+        requires nodes { IsCountable self.old.tree }
         requires reading { is_reading step.now ≡ true }
         ensures same { self.new ≡ self.old }
         ensures at { result.at ≡ self.old.base + length self.old.history.items }
@@ -105,37 +100,30 @@ impl Session {
         self.tree.refusal(step)
     }
 
-    /// The commit of a line whose one step changes the tree and is not refused: the entry of the history,
-    /// and the record of the journal. Takes the memory that the history wants for it, and notes the new
-    /// node, if there is one, under its path, which leads nowhere until the step is done.
-    pub(crate) fn prepare(
-        &mut self,
-        alloc: Global,
-        task: &Task,
-        step: &Step,
-    ) -> Result<Commit, AllocError>
+    /// The commit of a line whose one step changes the tree and is not refused. Takes the memory
+    /// that the history wants for its entry, and notes the new node, if there is one, under its
+    /// path, which leads nowhere until the step is done.
+    pub(crate) fn prepare(&mut self, alloc: Global, step: &Step) -> Result<Commit, AllocError>
         requires few { self.old.base + vec_len self.old.history + 1 < 2 ^ 64 }
         requires rules { StepKeepsRules step.now }
         requires changing { is_reading step.now ≡ false }
         requires done { refused (do_step self.old.tree step.now).0 ≡ None }
         requires session { (items : ItemMap) × IsSession items self.old }
-        ensures same { self.new ≡
-            record self.old { nodes = self.new.nodes; history = self.new.history } }
-        ensures history { self.new.history.items ≡ self.old.history.items }
-        ensures session { (items : ItemMap) → IsSession items self.old → IsSession items self.new }
-        ensures room { OnOk result (vec_len self.new.history < vec_capacity self.new.history) }
-        ensures entry { IfOk result (λ commit. commit.entry ≡
-            entry_of (self.old.base + length self.old.history.items + 1) task.now step.now) }
+        ensures noted { HasNoted self.old self.new }
+        ensures room { IfOk result (λ commit. HasEntryRoom self.new commit.room) }
+        ensures number { IfOk result (λ commit. commit.number ≡
+            self.old.base + length self.old.history.items + 1) }
         ensures ready { (items : ItemMap) → IsSession items self.old →
-            IfOk result (IsReady items self.new.nodes self.new.next step.now) }
+            IfOk result (IsReadyCommit items self.new.nodes self.new.next step.now) }
     {
         let number = self.number() + 1;
-        let entry = entry_of(alloc, number, task, step)?;
+        let room = Vec::with_capacity(alloc, 1)?;
         self.history.reserve(1)?;
         let plan = self.plan(alloc, step)?;
         let record = record_of(alloc, number, plan.items)?;
         Ok(Commit {
-            entry,
+            number,
+            room,
             record,
             next: plan.next,
         })
@@ -209,27 +197,27 @@ impl Session {
     pub(crate) fn commit(
         &mut self,
         alloc: Global,
-        step: &Step,
-        entry: Entry,
+        change: Change,
+        number: u64,
+        room: Vec<Step>,
         next: Numbers,
     ) -> Result<(), AllocError>
-        requires done { refused (do_step self.old.tree step.now).0 ≡ None }
-        requires room { vec_len self.old.history < vec_capacity self.old.history }
+        requires nodes { IsCountable self.old.tree }
+        requires done { refused (do_step self.old.tree change.step).0 ≡ None }
+        requires room { HasEntryRoom self.old room }
         ensures refused { OnErr result (self.new ≡ self.old) }
         ensures done { OnOk result (self.new ≡ record self.old {
-          tree = (do_step self.old.tree step.now).1;
+          tree = (do_step self.old.tree change.step).1;
           history = self.new.history;
           next = next;
         }) }
-        ensures history { OnOk result
-            (self.new.history.items ≡ self.old.history.items ++ entry ∷ []) }
+        ensures history { OnOk result (self.new.history.items
+            ≡ self.old.history.items ++ change_entry number change ∷ []) }
     {
-        let Ok(_) = self.tree.step(alloc, step)? else {
+        let Ok(_) = self.tree.step(alloc, &change.step)? else {
             unreachable!();
         };
-        let Ok(()) = self.history.push(entry) else {
-            unreachable!();
-        };
+        self.history.push_reserved(change.entry(number, room));
         self.next = next;
         Ok(())
     }

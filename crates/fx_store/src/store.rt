@@ -1,16 +1,16 @@
 //! A mounted disk.
-ghost use Rattle.std.specs.Prelude.{◌≡◌, ◌≢◌, ℕ, ◌+◌, ◌<◌, ◌≤◌, All, true, false, None, Ok, length, is_ok, IfOk, OnOk, OnErr};
+ghost use Rattle.std.specs.Prelude.{◌≡◌, ◌≢◌, ◌+◌, ◌<◌, ◌≤◌, All, true, false, None, length, is_ok, IfOk, OnOk, OnErr};
 ghost use Rattle.fx_plain.specs.Tree.{Tree};
 ghost use Rattle.fx_plain.specs.Table.{is_reading};
 ghost use Rattle.fx_script.specs.Print.{StepKeepsRules};
 ghost use Rattle.fx_script.specs.Sent.{TaskKeepsRules};
 ghost use Rattle.fx_script.specs.declared.script.Task.{Task};
-ghost use Rattle.fx_history.specs.History.{settle};
 ghost use Rattle.fx_history.specs.Transcript.{EndsNext};
-ghost use Rattle.fx_disk.specs.Seen.{GoesOn, HasCalled, HasFailedLast};
-ghost use Rattle.fx_store.specs.Line.{Changes, Looks, flushes};
-ghost use Rattle.fx_store.specs.Mounted.{EndsSync, FlushedAll, LeavesDisk, LeavesImages, LeavesWhole, Opens, SameMount, TakesRing, TellsFaults, WritesEach, WroteAll};
+ghost use Rattle.fx_disk.specs.Seen.{HasFailedLast};
+ghost use Rattle.fx_store.specs.Line.{Changes, Looks, change_task, flushes};
+ghost use Rattle.fx_store.specs.Mounted.{EndsSync, KeepsLive, KeepsMount, LeavesDisk, LeavesSettled, Opens, SameMount, SyncDid, TakesRing, TellsFaults, WriteDid, WroteAll};
 
+use crate::commit::Change;
 use crate::put::{PutEnd, put};
 use crate::session::Session;
 use fx_disk::{Disk, DiskFailed};
@@ -75,33 +75,52 @@ pub struct StoreEnd<D> {
 }
 
 impl<D: Disk> Store<D> {
-    /// Does a line. A line that looks leaves the disk alone, and so does one that changes the tree: its
-    /// record waits in the journal's queue in memory. `sync` writes and flushes, as [`Store::sync`]. A
-    /// task that was made by hand can be done where [`Task::keeps_rules`] holds.
-    pub fn exec(&mut self, alloc: Global, task: &Task) -> Outcome
-        requires { TaskKeepsRules task.now }
+    /// Does a line. A line that looks leaves the disk alone, and so does one that changes the tree:
+    /// its record waits in the journal's queue in memory. `sync` writes and flushes, as
+    /// [`Store::sync`]. A task that was made by hand can be done where [`Task::keeps_rules`] holds.
+    pub fn exec(&mut self, alloc: Global, task: Task) -> Outcome
+        requires { TaskKeepsRules task }
         ensures ends { (opening : Tree) → Opens self.old.txns opening →
             EndsNext opening self.old.base self.old.history self.new.history
-            task.now result.at result.kind }
+            task result.at result.kind }
         ensures takes { TakesRing self.old self.new result.kind }
-        ensures still { task.now.line ≢ Line.Sync → LeavesDisk self.old self.new }
-        ensures syncs { task.now.line ≡ Line.Sync →
+        ensures still { task.line ≢ Line.Sync → LeavesDisk self.old self.new }
+        ensures syncs { task.line ≡ Line.Sync →
             EndsSync (D.seen self.old.disk) (D.seen self.new.disk) self.old self.new result.kind }
         ensures faults { TellsFaults (D.seen self.old.disk) (D.seen self.new.disk) result.kind }
-        ensures each { WritesEach (flushes task.now.line)
+        ensures keeps { KeepsMount (flushes task.line)
             (D.seen self.old.disk) (D.seen self.new.disk) self.old self.new }
-        ensures mount { SameMount self.old self.new }
-        ensures goes { GoesOn (D.seen self.old.disk) (D.seen self.new.disk) }
     {
-        match &task.line {
+        let Task {
+            client,
+            number,
+            line,
+        } = task;
+        match line {
             Line::Single(step) => {
                 if step.is_reading() {
-                    return self.look(alloc, step);
+                    return self.look(alloc, &step);
                 }
-                return self.change(alloc, task, step);
+                let change = Change {
+                    client,
+                    line: number,
+                    step,
+                };
+                return self.change(alloc, change);
             }
             Line::Sync => return self.sync_line(),
         }
+    }
+
+    /// How a line ends for which there is no memory, and which is no `sync`: nothing is done.
+    pub fn out_of_memory(&self) -> Outcome
+        ensures ends { (opening : Tree) (task : Task) → Opens self.now.txns opening →
+            task.line ≢ Line.Sync →
+            EndsNext opening self.now.base self.now.history self.now.history
+            task result.at result.kind }
+        ensures memory { result.kind ≡ EndKind.OutOfMemory }
+    {
+        Outcome::new(self.number(), EndKind::OutOfMemory)
     }
 
     /// Does a line whose one step looks at the tree.
@@ -117,26 +136,25 @@ impl<D: Disk> Store<D> {
         self.session.look(alloc, step)
     }
 
-    /// Does a line whose one step changes the tree. All memory that the commit wants, and its room in the
-    /// ring, are taken before the step is done.
-    fn change(&mut self, alloc: Global, task: &Task, step: &Step) -> Outcome
-        requires client { 0 < task.now.client }
-        requires rules { StepKeepsRules step.now }
-        requires changing { is_reading step.now ≡ false }
-        requires line { task.now.line ≡ Line.Single step.now }
+    /// Does a line whose one step changes the tree. All memory that the commit wants, and its room
+    /// in the ring, are taken before the step is done.
+    fn change(&mut self, alloc: Global, change: Change) -> Outcome
+        requires client { 0 < change.client }
+        requires rules { StepKeepsRules change.step }
+        requires changing { is_reading change.step ≡ false }
         ensures ends { (opening : Tree) → Opens self.old.txns opening →
             EndsNext opening self.old.base self.old.history self.new.history
-            task.now result.at result.kind }
+            (change_task change) result.at result.kind }
         ensures changes { Changes result.kind }
         ensures takes { TakesRing self.old self.new result.kind }
         ensures still { LeavesDisk self.old self.new }
         ensures mount { SameMount self.old self.new }
     {
         let at = self.session.number();
-        if let Some(refusal) = self.session.refusal(step) {
+        if let Some(refusal) = self.session.refusal(&change.step) {
             return Outcome::new(at, EndKind::Refused(1, refusal));
         }
-        let Ok(commit) = self.session.prepare(alloc, task, step) else {
+        let Ok(commit) = self.session.prepare(alloc, &change.step) else {
             return Outcome::new(at, EndKind::OutOfMemory);
         };
         let done = put(
@@ -144,7 +162,7 @@ impl<D: Disk> Store<D> {
             &mut self.session,
             &mut self.ring,
             &mut self.pool,
-            step,
+            change,
             commit,
         );
         match done {
@@ -163,10 +181,8 @@ impl<D: Disk> Store<D> {
         ensures syncs { EndsSync (D.seen self.old.disk) (D.seen self.new.disk)
             self.old self.new result.kind }
         ensures faults { TellsFaults (D.seen self.old.disk) (D.seen self.new.disk) result.kind }
-        ensures each { WritesEach 1 (D.seen self.old.disk) (D.seen self.new.disk)
+        ensures keeps { KeepsMount 1 (D.seen self.old.disk) (D.seen self.new.disk)
             self.old self.new }
-        ensures mount { SameMount self.old self.new }
-        ensures goes { GoesOn (D.seen self.old.disk) (D.seen self.new.disk) }
     {
         let at = self.number();
         match self.sync() {
@@ -184,33 +200,18 @@ impl<D: Disk> Store<D> {
         self.session.number()
     }
 
-    /// Pads the unfinished journal block, writes all blocks that wait, in order, and flushes. Makes one
-    /// write a block that waits, and one flush, also where none waits. After a fault what was not written
-    /// still waits, and nothing is settled.
+    /// Pads the unfinished journal block, writes all blocks that wait, in order, and flushes. Makes
+    /// one write a block that waits, and one flush, also where none waits. After a fault what was
+    /// not written still waits, and nothing is settled.
     pub fn sync(&mut self) -> Result<Mark, DiskFailed>
         ensures mark { IfOk result (λ mark. mark ≡ record {
           number = self.old.base + length self.old.history;
           calls = (D.seen self.new.disk).calls;
         }) }
-        ensures settled { OnOk result
-            (self.new.history ≡ settle (D.seen self.new.disk).calls self.old.history) }
-
-        // Every image that a stop may leave now has all of the history.
-        ensures whole { OnOk result (LeavesWhole (D.seen self.new.disk) self.new self.new.history) }
-
-        // One write a block that waits, and one flush, which is the last call.
-        ensures flushed { OnOk result
-            (FlushedAll (D.seen self.old.disk) (D.seen self.new.disk) self.old self.new) }
-
-        // A fault is that of the call which was last asked for: it was not made, or it failed. Each block
-        // that waited was written by one call or waits still, and at most one call more was made.
-        ensures failed { OnErr result
-            ((self.new.history ≡ self.old.history) × HasFailedLast (D.seen self.new.disk)) }
-        ensures each { WritesEach 1 (D.seen self.old.disk) (D.seen self.new.disk)
+        ensures did { SyncDid (is_ok result) (D.seen self.old.disk) (D.seen self.new.disk)
             self.old self.new }
-
-        ensures mount { SameMount self.old self.new × (self.new.live ≡ self.old.live) }
-        ensures called { HasCalled (D.seen self.old.disk) (D.seen self.new.disk) (is_ok result) }
+        ensures keeps { KeepsLive (D.seen self.old.disk) (D.seen self.new.disk)
+            self.old self.new (is_ok result) }
     {
         if let Err(fault) = self.write_all() {
             return Err(fault);
@@ -231,10 +232,8 @@ impl<D: Disk> Store<D> {
             (WroteAll (D.seen self.old.disk) (D.seen self.new.disk) self.old self.new) }
         ensures last { OnErr result (HasFailedLast (D.seen self.new.disk)) }
         ensures history { self.new.history ≡ self.old.history }
-        ensures each { WritesEach 1 (D.seen self.old.disk) (D.seen self.new.disk)
-            self.old self.new }
-        ensures mount { SameMount self.old self.new × (self.new.live ≡ self.old.live) }
-        ensures called { HasCalled (D.seen self.old.disk) (D.seen self.new.disk) (is_ok result) }
+        ensures keeps { KeepsLive (D.seen self.old.disk) (D.seen self.new.disk)
+            self.old self.new (is_ok result) }
     {
         loop {
             match self.write_one() {
@@ -245,20 +244,14 @@ impl<D: Disk> Store<D> {
         }
     }
 
-    /// Writes the first block that waits, where one does: the unfinished block is closed first, if it
-    /// holds bytes. Makes one write, or none where no block waits.
+    /// Writes the first block that waits, where one does: the unfinished block is closed first, if
+    /// it holds bytes. Makes one write, or none where no block waits.
     fn write_one(&mut self) -> Result<bool, DiskFailed>
-        ensures fewer { result ≡ Ok true → self.new.waiting + 1 ≡ self.old.waiting }
-        ensures one { result ≡ Ok true →
-            (D.seen self.new.disk).calls ≡ (D.seen self.old.disk).calls + 1 }
-        ensures none { result ≡ Ok false → (self.old.waiting ≡ 0)
-            × (self.new.waiting ≡ 0) × (self.new.disk ≡ self.old.disk) }
-        ensures waiting { OnErr result (self.new.waiting ≡ self.old.waiting) }
-        ensures last { OnErr result (HasFailedLast (D.seen self.new.disk)) }
-        ensures most { (D.seen self.new.disk).calls ≤ (D.seen self.old.disk).calls + 1 }
+        ensures did { WriteDid result (D.seen self.old.disk) (D.seen self.new.disk)
+            self.old self.new }
         ensures history { self.new.history ≡ self.old.history }
-        ensures mount { SameMount self.old self.new × (self.new.live ≡ self.old.live) }
-        ensures called { HasCalled (D.seen self.old.disk) (D.seen self.new.disk) (is_ok result) }
+        ensures keeps { KeepsLive (D.seen self.old.disk) (D.seen self.new.disk)
+            self.old self.new (is_ok result) }
     {
         let _next = self.ring.pad(&mut self.pool);
         match self
@@ -275,17 +268,10 @@ impl<D: Disk> Store<D> {
     fn settle(&mut self) -> Result<u64, DiskFailed>
         requires { self.old.waiting ≡ 0 }
         ensures calls { IfOk result (λ calls. calls ≡ (D.seen self.new.disk).calls) }
-        ensures settled { OnOk result
-            (self.new.history ≡ settle (D.seen self.new.disk).calls self.old.history) }
-        ensures whole { OnOk result (LeavesWhole (D.seen self.new.disk) self.new self.new.history) }
-        ensures flushed { OnOk result
-            (FlushedAll (D.seen self.old.disk) (D.seen self.new.disk) self.old self.new) }
-        ensures failed { OnErr result
-            ((self.new.history ≡ self.old.history) × HasFailedLast (D.seen self.new.disk)) }
-        ensures each { WritesEach 1 (D.seen self.old.disk) (D.seen self.new.disk)
+        ensures did { SyncDid (is_ok result) (D.seen self.old.disk) (D.seen self.new.disk)
             self.old self.new }
-        ensures mount { SameMount self.old self.new × (self.new.live ≡ self.old.live) }
-        ensures called { HasCalled (D.seen self.old.disk) (D.seen self.new.disk) (is_ok result) }
+        ensures keeps { KeepsLive (D.seen self.old.disk) (D.seen self.new.disk)
+            self.old self.new (is_ok result) }
     {
         if let Err(fault) = self.disk.flush() {
             return Err(fault);
@@ -297,14 +283,11 @@ impl<D: Disk> Store<D> {
 
     /// Gives the disk back, with the commits that were made. What waits is dropped.
     pub fn end(self) -> StoreEnd<D>
-        ensures disk { result.disk ≡ self.disk }
-        ensures base { result.base ≡ self.base }
-        ensures history { result.history ≡ self.history }
+        ensures gives { result ≡
+            record { disk = self.disk; base = self.base; history = self.history } }
 
         // What a stop may leave, at each moment since the mount.
-        ensures images { LeavesImages (D.seen result.disk) self self.history }
-        // No entry is settled by a later call than were made.
-        ensures settled { All (λ entry. entry.settled ≤ (D.seen result.disk).calls) self.history }
+        ensures leaves { LeavesSettled (D.seen result.disk) self self.history }
     {
         let Store {
             disk,

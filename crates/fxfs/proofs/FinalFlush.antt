@@ -1,5 +1,5 @@
 -- The flush at the end of a session: what was made is durable, or the disk failed.
-use Rattle.std.proofs.Common.{◌≡◌, ℕ, zero, suc, ◌+◌, ◌<◌, ◌≤◌, Bool, true, false, List, [], ◌∷◌, refl, sym, ap, subst, ◌∙◌, length, arith}
+use Rattle.std.proofs.Common.{◌≡◌, ℕ, zero, suc, ◌<◌, ◌≤◌, Bool, true, false, List, [], ◌∷◌, refl, sym, ap, subst, ◌∙◌, length, arith}
 use Rattle.std.specs.Prelude.{All, Option, None, Some}
 use Rattle.std.specs.Option.{IfSome}
 use Rattle.std.proofs.lemmas.List.{length-map}
@@ -16,7 +16,7 @@ use Rattle.fx_history.proofs.Settling.{settled_by_some}
 use Rattle.fx_history.proofs.Sessions.{session_settle}
 use Rattle.fx_image.specs.Standing.{Transactions}
 use Rattle.fx_image.specs.Prefix.{KeepsAll}
-use Rattle.fx_store.specs.Mounted.{State, Opens, KeepsImages, KeepsWhole, LeavesImages, LeavesWhole, SameMount, FlushedAll}
+use Rattle.fx_store.specs.Mounted.{State, Opens, KeepsImages, KeepsLive, KeepsWhole, LeavesImages, LeavesSettled, SameMount, FlushedAll, HasSettled}
 use Rattle.fxfs.specs.declared.ended.Stop.{Stop}
 use Rattle.fxfs.specs.declared.ended.Stop.TheVariants as stops
 use Rattle.fxfs.specs.Outside.{End}
@@ -50,18 +50,19 @@ all_from (Some r) size from txns base history opening opens k = k opening opens
 -- ---- the flush itself
 
 -- a sync that was good makes all durable
-pub sync_lasts : {Device : Type 0} (before after : DiskSeen) (old new : State Device) → SameMount old new → FlushedAll before after old new → HasCalled before after true
-    → new.history ≡ settle after.calls old.history → LeavesWhole after new new.history → (opening : Tree) → Opens old.txns opening
+pub sync_lasts : {Device : Type 0} (before after : DiskSeen) (old new : State Device) → KeepsLive before after old new true → HasSettled before after old new → (opening : Tree) → Opens old.txns opening
     → IsDurable before.calls before.faults old.from opening old.base new.history [] after
-sync_lasts before after old new same flushed called settles whole opening opens =
-    let here = all_from after.told after.size new.from new.txns new.base new.history opening (subst (λ (ts : Transactions). Opens ts opening) (sym same.txns) opens) whole in
+sync_lasts before after old new keeps done opening opens =
+    let same : SameMount old new = keeps.mount in
+    let flushed : FlushedAll before after old new = done.flushed in
+    let here = all_from after.told after.size new.from new.txns new.base new.history opening (subst (λ (ts : Transactions). Opens ts opening) (sym same.txns) opens) done.whole in
     let at_base = subst (λ (n : ℕ). IfSome after.told (KeepsAll after.size new.from opening n new.history)) same.base here in
     record {
       flushed = flushed.flushed;
       more = omega (arith, flushed.calls);
       below = λ i line told got is. absurd (cc got);
-      unfailed = λ none. called.faults;
-      settled = subst (λ (h : List Entry). All (λ entry. 0 < entry.settled) h) (sym settles) (settled_all after.calls old.history (omega (arith, flushed.calls)));
+      unfailed = λ none. keeps.called.faults;
+      settled = subst (λ (h : List Entry). All (λ entry. 0 < entry.settled) h) (sym done.history) (settled_all after.calls old.history (omega (arith, flushed.calls)));
       whole = subst (λ (n : ℕ). IfSome after.told (KeepsAll after.size n opening old.base new.history)) same.from at_base;
     }
 
@@ -134,8 +135,11 @@ module _ (start mid after : DiskSeen) (from : ℕ) (opening : Tree) (end : End) 
 -- ---- what a stop leaves
 
 -- the images are those of the same mount
-pub images_of_mount : {Device : Type 0} (seen : DiskSeen) (old new : State Device) (history : List Entry) → SameMount old new → LeavesImages seen new history → LeavesImages seen old history
+images_of_mount : {Device : Type 0} (seen : DiskSeen) (old new : State Device) (history : List Entry) → SameMount old new → LeavesImages seen new history → LeavesImages seen old history
 images_of_mount seen old new history same k =
     subst (λ (n : ℕ). IfSome seen.told (KeepsImages seen.size n old.txns old.base history)) same.from
     (subst (λ (ts : Transactions). IfSome seen.told (KeepsImages seen.size new.from ts old.base history)) same.txns
     (subst (λ (n : ℕ). IfSome seen.told (KeepsImages seen.size new.from new.txns n history)) same.base k))
+
+pub settled_of_mount : {Device : Type 0} (seen : DiskSeen) (old new : State Device) (history : List Entry) → SameMount old new → LeavesSettled seen new history → LeavesSettled seen old history
+settled_of_mount seen old new history same k = record { images = images_of_mount seen old new history same k.images; by_now = k.by_now }

@@ -1,5 +1,5 @@
 -- One line more: what lines tell of the disk.
-use Rattle.std.proofs.Common.{◌≡◌, ℕ, ◌≤◌, List, [], ◌∷◌, ◌++◌, refl, arith}
+use Rattle.std.proofs.Common.{ℕ, List, [], ◌∷◌, ◌++◌, refl, arith}
 use Rattle.std.specs.Option.{IfSome}
 use Rattle.fx_disk.specs.Steps.{IsRecordOf}
 use Rattle.fx_disk.specs.Seen.{DiskSeen, GoesOn}

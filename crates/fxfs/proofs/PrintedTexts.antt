@@ -2,7 +2,7 @@
 use Rattle.std.proofs.Common.{ℕ, ◌≤◌, List, ◌++◌, sym, subst, ◌∙◌, ◌≡◌, length, take, arith, min, true, false}
 use Rattle.std.specs.Prelude.{Option}
 use Rattle.std.proofs.lemmas.List.{take-append-le, take_min}
-use Rattle.fx_io.specs.Told.{Takes, TakesFront}
+use Rattle.fx_io.specs.Told.{TakesAll, TakesFront}
 use Rattle.fx_io.specs.Seen.{SinkSeen, HasTaken}
 use Rattle.fx_io.proofs.Frames.{taken_then}
 use Rattle.fxfs.specs.Outside.{PrintsOrFails}
@@ -13,7 +13,7 @@ front_more before now p q (n, e) =
     let k : ℕ = min n (length p) in
     let within : k ≤ length p = omega arith in
     let same : take n p ≡ take k (p ++ q) = sym (take_min n p) ∙ sym (take-append-le k p q within) in
-    (k, subst (Takes before now) same e)
+    (k, subst (TakesAll before now) same e)
 
 -- the first of two texts could not be written whole
 pub first_fails : (a b : SinkSeen) (p q : List ℕ) → HasTaken a b p false → PrintsOrFails a b (p ++ q)

@@ -1,8 +1,7 @@
 -- How `shell` ends: once its lines were run, where the disk was not mounted, and where there was no script.
-use Rattle.std.proofs.Common.{◌≡◌, ◌≢◌, ℕ, ◌+◌, ◌<◌, ◌≤◌, List, [], arith, inl, inr, refl, subst, sym, ◌∙◌}
-use Rattle.std.specs.Prelude.{◌⊎◌, Option, Some, None, All}
+use Rattle.std.proofs.Common.{◌≡◌, ℕ, ◌+◌, ◌≤◌, List, arith, inl, inr, refl, subst, sym, ◌∙◌}
+use Rattle.std.specs.Prelude.{Option, Some, None, All}
 use Rattle.std.specs.Option.{IfSome}
-use Rattle.fx_base.specs.Causes.{Rose}
 use Rattle.fx_disk.specs.Record.{DiskRecord}
 use Rattle.fx_disk.specs.Steps.{IsRecordOf}
 use Rattle.fx_disk.specs.Seen.{DiskSeen, GoesOn}
@@ -21,12 +20,13 @@ use Rattle.fx_history.specs.Outcome.{LineEnd}
 use Rattle.fx_store.specs.Mounted.{Opens, KeepsImages, LeavesOpening}
 use Rattle.fx_mount.specs.declared.fault.MountFault.{MountFault}
 use Rattle.fx_mount.specs.declared.fault.MountFault.TheVariants as mounts
-use Rattle.fx_mount.specs.Found.{HasReadWell, HasRing, IsMountedAt, IsMountCause, IsTold}
+use Rattle.fx_mount.specs.Found.{HasReadWell, HasRing, IsMountedAt, IsMountCause}
 use Rattle.fxfs.specs.declared.ended.Stop.{Stop}
 use Rattle.fxfs.specs.declared.ended.Stop.TheVariants as stops
 use Rattle.fxfs.specs.declared.shell.TheConstants.{MAX_INPUT}
 use Rattle.fxfs.specs.Outside.{Outside, End, IsStopped, outside}
-use Rattle.fxfs.specs.Lines.{Spells, IsScript, IsNoScript, IsDurable, IsNotDurable, Finishes, Tells, TellsUnsynced}
+use Rattle.fxfs.specs.Stop.{stop_of}
+use Rattle.fxfs.specs.Lines.{Spells, IsNoScript, IsDurable, IsNotDurable, Finishes, Tells, TellsUnsynced}
 use Rattle.fxfs.specs.Shell.{AreFull, AreRun, AreSyncs, AreCalls, HasNotRun, HasRunLines, HasSynced, HasNotSynced, ShellDid, ShellEnds}
 use Rattle.fxfs.proofs.FaultsTold.{faults_between}
 use Rattle.fxfs.proofs.FinalFlush.{durable_at}
@@ -137,9 +137,7 @@ module _ (before after : Outside) (mid : DiskSeen) (from : ℕ) (txns : Transact
 -- What is known then.
 pub record Refused (before after : Outside) (fault : MountFault) (end : End) (tasks : List Task) : Type 0 where
   pub spelled : Spells before.source after.source tasks
-  pub device : fault ≡ mounts.Device → end.stop ≡ stops.Device
-  pub memory : fault ≡ mounts.OutOfMemory → end.stop ≡ stops.OutOfMemory
-  pub image : fault ≢ mounts.Device → fault ≢ mounts.OutOfMemory → end.stop ≡ stops.NotMounted fault
+  pub stop : end.stop ≡ stop_of fault
   pub stopped : IsStopped before.sink after.sink end
   pub cause : IsMountCause before.disk after.disk fault
   pub calls : after.disk.calls ≤ before.disk.calls + 2
@@ -154,27 +152,26 @@ module _ (before after : Outside) (end : End) (tasks : List Task) where
   not_run fault k well = record { stopped = k.stopped; disk = well; opening = k.opening }
 
   -- the fault is the image's own
-  no_image : (fault : MountFault) → Refused before after fault end tasks → fault ≢ mounts.Device → fault ≢ mounts.OutOfMemory
-      → HasReadWell before.disk after.disk → ShellDid before after end (stops.NotMounted fault) → ShellDid before after end end.stop
-  no_image fault k n m well did = subst (ShellDid before after end) (sym (k.image n m)) did
+  no_image : (fault : MountFault) → end.stop ≡ stops.NotMounted fault → ShellDid before after end (stops.NotMounted fault) → ShellDid before after end end.stop
+  no_image fault is did = subst (ShellDid before after end) (sym is) did
 
   refused_did : (fault : MountFault) → Refused before after fault end tasks → ShellDid before after end end.stop
   refused_did mounts.Device k =
-      subst (ShellDid before after end) (sym (k.device refl)) (k.cause.0, inl (record { stopped = k.stopped; spelled = (tasks, k.spelled); calls = k.calls; failed = k.cause.1; opening = k.opening }))
-  refused_did mounts.OutOfMemory k = subst (ShellDid before after end) (sym (k.memory refl)) (inl (not_run mounts.OutOfMemory k k.cause))
-  refused_did mounts.NoSuper k = no_image mounts.NoSuper k (λ e. cc) (λ e. cc) k.cause.0 (not_run mounts.NoSuper k k.cause.0, (tasks, k.spelled), k.cause.1)
+      subst (ShellDid before after end) (sym k.stop) (k.cause.0, inl (record { stopped = k.stopped; spelled = (tasks, k.spelled); calls = k.calls; failed = k.cause.1; opening = k.opening }))
+  refused_did mounts.OutOfMemory k = subst (ShellDid before after end) (sym k.stop) (inl (not_run mounts.OutOfMemory k k.cause))
+  refused_did mounts.NoSuper k = no_image mounts.NoSuper k.stop (not_run mounts.NoSuper k k.cause.0, (tasks, k.spelled), k.cause.1)
   refused_did (mounts.Version version) k =
-      no_image (mounts.Version version) k (λ e. cc) (λ e. cc) k.cause.0 (not_run (mounts.Version version) k k.cause.0, (tasks, k.spelled), k.cause.1)
+      no_image (mounts.Version version) k.stop (not_run (mounts.Version version) k k.cause.0, (tasks, k.spelled), k.cause.1)
   refused_did (mounts.DiskSize blocks) k =
-      no_image (mounts.DiskSize blocks) k (λ e. cc) (λ e. cc) k.cause.0 (not_run (mounts.DiskSize blocks) k k.cause.0, (tasks, k.spelled), k.cause.1)
+      no_image (mounts.DiskSize blocks) k.stop (not_run (mounts.DiskSize blocks) k k.cause.0, (tasks, k.spelled), k.cause.1)
   refused_did (mounts.BadLayer block) k =
-      no_image (mounts.BadLayer block) k (λ e. cc) (λ e. cc) k.cause.0 (not_run (mounts.BadLayer block) k k.cause.0, (tasks, k.spelled), k.cause.1)
+      no_image (mounts.BadLayer block) k.stop (not_run (mounts.BadLayer block) k k.cause.0, (tasks, k.spelled), k.cause.1)
   refused_did (mounts.BadRecord place) k =
-      no_image (mounts.BadRecord place) k (λ e. cc) (λ e. cc) k.cause.0 (not_run (mounts.BadRecord place) k k.cause.0, (tasks, k.spelled), k.cause.1)
+      no_image (mounts.BadRecord place) k.stop (not_run (mounts.BadRecord place) k k.cause.0, (tasks, k.spelled), k.cause.1)
   refused_did (mounts.BadTree store id) k =
-      no_image (mounts.BadTree store id) k (λ e. cc) (λ e. cc) k.cause.0 (not_run (mounts.BadTree store id) k k.cause.0, (tasks, k.spelled), k.cause.1)
+      no_image (mounts.BadTree store id) k.stop (not_run (mounts.BadTree store id) k k.cause.0, (tasks, k.spelled), k.cause.1)
   refused_did (mounts.Cramped free) k =
-      no_image (mounts.Cramped free) k (λ e. cc) (λ e. cc) k.cause.0 (not_run (mounts.Cramped free) k k.cause.0, (tasks, k.spelled), k.cause.1)
+      no_image (mounts.Cramped free) k.stop (not_run (mounts.Cramped free) k k.cause.0, (tasks, k.spelled), k.cause.1)
 
   pub refused_ends : (fault : MountFault) → Refused before after fault end tasks → ShellEnds before after end
   refused_ends fault k = record {

@@ -1,6 +1,6 @@
 -- One line more: the syncs that lines tell, and the calls that the disk made for them.
 use Rattle.std.proofs.Common.{◌≡◌, ℕ, ◌+◌, ◌<◌, ◌≤◌, List, [], ◌∷◌, ◌++◌, refl, sym, ap, subst, ◌∙◌, length, arith, inl, inr, false}
-use Rattle.std.specs.Prelude.{Option, Some, None, slice_get}
+use Rattle.std.specs.Prelude.{Option, Some, None}
 use Rattle.std.specs.Option.{IfSome}
 use Rattle.std.proofs.lemmas.List.{get_or_append_left}
 use Rattle.std.proofs.lemmas.List.Sums.{sum_by_push}
@@ -20,7 +20,7 @@ use Rattle.fx_history.proofs.Histories.{got_split}
 use Rattle.fx_store.specs.Line.{flushes}
 use Rattle.fx_history.specs.Transcript.{EndsNext, is_synced}
 use Rattle.fxfs.specs.Lines.{synced_in}
-use Rattle.fxfs.specs.Shell.{IsSync, AreSyncs, syncs_in}
+use Rattle.fxfs.specs.Shell.{AreSyncs, syncs_in}
 use Rattle.fxfs.proofs.FaultsTold.{end_of, count_more, pairs_more}
 
 -- ---- each sync that a line tells

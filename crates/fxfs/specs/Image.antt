@@ -5,7 +5,7 @@ use Rattle.fx_script.specs.declared.fault.LineFault.{LineFault}
 use Rattle.fx_script.specs.Word.{number_in}
 use Rattle.fxfs.specs.declared.image.ImageWord.{ImageWord}
 use Rattle.fxfs.specs.declared.image.ImageWord.TheVariants.{Memory, File, Unfit}
-use Rattle.fxfs.specs.declared.image.TheConstants.{MIN_BLOCKS, MAX_BLOCKS}
+use Rattle.fx_super.specs.declared.superblock.TheConstants.{MIN_BLOCKS, MAX_BLOCKS}
 
 -- a disk of this many blocks in memory
 abbrev pub memory_of : Result ℕ LineFault → ImageWord

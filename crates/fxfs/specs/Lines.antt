@@ -1,5 +1,5 @@
 -- The lines of a source, and what is done with them.
-use Rattle.std.specs.Prelude.{◌≡◌, ◌⊎◌, ℕ, ◌<◌, ◌≤◌, ◌+◌, ◌++◌, Bool, true, false, All, List, [], Option, Some, Ok, Err, length, count_by, slice_get}
+use Rattle.std.specs.Prelude.{◌≡◌, ◌⊎◌, ℕ, ◌<◌, ◌+◌, ◌++◌, Bool, true, false, All, List, Some, Ok, Err, length, count_by, slice_get}
 use Rattle.std.specs.Option.{IfSome}
 use Rattle.fx_base.specs.Causes.{Rose}
 use Rattle.fx_disk.specs.Seen.{DiskSeen, IsFlushedBy, HasFailedLast}
@@ -15,7 +15,7 @@ use Rattle.fx_history.specs.declared.entry.Entry.{Entry}
 use Rattle.fx_history.specs.declared.outcome.EndKind.TheVariants as ends
 use Rattle.fx_history.specs.Outcome.{LineEnd}
 use Rattle.fx_history.specs.History.{settle}
-use Rattle.fx_history.specs.Transcript.{is_fault, is_synced}
+use Rattle.fx_history.specs.Transcript.{Session, is_fault, is_synced}
 use Rattle.fx_history.specs.Text.{result_text}
 use Rattle.fxfs.specs.declared.ended.Stop.{Stop}
 use Rattle.fxfs.specs.declared.ended.Stop.TheVariants as stops
@@ -121,6 +121,12 @@ Lasts false calls faults from opening base history outcomes disk =
 abbrev pub SettlesIf : Bool → ℕ → List Entry → List Entry → Type 0
 SettlesIf true calls old new = (0 < calls) × (new ≡ settle calls old)
 SettlesIf false calls old new = new ≡ old
+
+-- A session stays one with this history in place of that one, which has as many entries.
+pub record KeepsSession (base : ℕ) (old new : List Entry) : Type 0 where
+  pub as_many : length new ≡ length old
+  pub session : (opening : Tree) (tasks : List Task) (outcomes : List LineEnd)
+      → Session opening base old tasks outcomes → Session opening base new tasks outcomes
 
 -- The flush came, and this was printed, by why the command stopped.
 abbrev pub Finishes : (calls faults from : ℕ) → Tree → DiskSeen → SinkSeen → SinkSeen → List Task

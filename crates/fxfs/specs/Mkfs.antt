@@ -1,21 +1,13 @@
 -- What `mkfs` does.
 use Rattle.std.specs.Prelude.{◌≡◌, ℕ, ◌≤◌, ◌+◌}
 use Rattle.fx_base.specs.Causes.{Rose}
-use Rattle.fx_disk.specs.Longer.{BothTell}
 use Rattle.fx_disk.specs.Seen.{DiskSeen, GoesOn, HasFailedLast}
 use Rattle.fx_io.specs.Seen.{SinkSeen, SinkGoesOn}
-use Rattle.fx_mount.specs.Formatted.{IsFormatted, LeavesRoot, HasFormatted, HasRoomFor}
+use Rattle.fx_mount.specs.Formatted.{IsNowFormatted, HasRoomFor}
 use Rattle.fxfs.specs.declared.ended.Stop.{Stop}
 use Rattle.fxfs.specs.declared.ended.Stop.TheVariants as stops
 use Rattle.fxfs.specs.Stop.{mkfs_line}
 use Rattle.fxfs.specs.Outside.{End, IsIdle, IsStopped, Prints, FailsIn}
-
--- The disk has room for the ring and was formatted with it, with no fault. If nothing of it was
--- loose, every image left now is one to mount, and stands for the root alone.
-pub record IsNowFormatted (ring : ℕ) (before after : DiskSeen) : Type 0 where
-  pub made : HasFormatted ring before after
-  pub formats : BothTell (IsFormatted before.size ring) before.told after.told
-  pub root : BothTell (LeavesRoot before.size ring) before.told after.told
 
 -- The disk has no room for the ring, or too many blocks, and is as it was.
 pub record IsUnfit (ring : ℕ) (before after : DiskSeen) (told : ℕ) : Type 0 where

@@ -1,5 +1,5 @@
 -- What `shell` does.
-use Rattle.std.specs.Prelude.{◌≡◌, ◌≢◌, ◌⊎◌, ℕ, ◌<◌, ◌≤◌, ◌+◌, ◌-◌, ◌^◌, min, All, List, [], Option, Some, length, slice_get, sum_by}
+use Rattle.std.specs.Prelude.{◌≡◌, ◌≢◌, ◌⊎◌, ℕ, ◌<◌, ◌≤◌, ◌+◌, ◌-◌, ◌^◌, min, All, List, Option, Some, length, slice_get, sum_by}
 use Rattle.std.specs.Option.{IfSome}
 use Rattle.fx_base.specs.Causes.{Rose}
 use Rattle.fx_disk.specs.Record.{DiskRecord, call_at}
@@ -9,7 +9,7 @@ use Rattle.fx_log.specs.Raising.{ChoosesSince, ChoosesNext}
 use Rattle.fx_image.specs.Standing.{Transactions}
 use Rattle.fx_image.specs.Prefix.{KeepsPrefix}
 use Rattle.fx_io.specs.Told.{GivesAtMost}
-use Rattle.fx_io.specs.Seen.{SinkGoesOn, SourceGoesOn}
+use Rattle.fx_io.specs.Seen.{SinkGoesOn, SinkSeen, SourceGoesOn}
 use Rattle.fx_plain.specs.Tree.{Tree}
 use Rattle.fx_item.specs.declared.full.Full.{Full}
 use Rattle.fx_script.specs.declared.script.Task.{Task}
@@ -18,7 +18,7 @@ use Rattle.fx_history.specs.declared.outcome.EndKind.TheVariants as ends
 use Rattle.fx_history.specs.Outcome.{LineEnd}
 use Rattle.fx_history.specs.Transcript.{Session}
 use Rattle.fx_store.specs.Line.{flushes}
-use Rattle.fx_store.specs.Mounted.{Opens, LeavesOpening}
+use Rattle.fx_store.specs.Mounted.{State, Opens, LeavesOpening}
 use Rattle.fx_mount.specs.declared.fault.MountFault.{MountFault}
 use Rattle.fx_mount.specs.declared.fault.MountFault.TheVariants as mounts
 use Rattle.fx_mount.specs.Found.{HasReadWell, HasRing, IsMountedAt, IsTold}
@@ -26,7 +26,7 @@ use Rattle.fxfs.specs.declared.ended.Stop.{Stop}
 use Rattle.fxfs.specs.declared.ended.Stop.TheVariants as stops
 use Rattle.fxfs.specs.declared.shell.TheConstants.{MAX_INPUT}
 use Rattle.fxfs.specs.Outside.{Outside, End, IsStopped}
-use Rattle.fxfs.specs.Lines.{Spells, IsScript, IsNoScript, IsDurable, IsNotDurable, Tells, TellsUnsynced, synced_in, faults_in}
+use Rattle.fxfs.specs.Lines.{Spells, IsScript, IsNoScript, Finishes, IsDurable, IsNotDurable, Tells, TellsUnsynced, synced_in, faults_in}
 
 -- No line was run, and the disk was read at most, with no fault. Every image left stands for the
 -- tree that it was.
@@ -123,6 +123,22 @@ pub record AreRun (ring live : ℕ) (opening : Tree) (before after : DiskSeen) (
   pub syncs : AreSyncs before.calls after.calls after.told end.outcomes
   pub calls : AreCalls before.calls after.calls tasks end.history end.outcomes
   pub full : AreFull ring live end.base end.outcomes
+
+-- The lines were run on a mounted disk that had these transactions and this state before them, and
+-- has that one after them.
+pub record AreLines {Device : Type 0} (opening : Tree) (before after : DiskSeen)
+    (old new : State Device) (tasks : List Task) (outcomes : List LineEnd) : Type 0 where
+  pub session : Session opening old.base new.history tasks outcomes
+  pub full : AreFull old.ring old.live old.base outcomes
+  pub told : AreTold before after outcomes
+
+-- They were run, the disk was flushed or failed then, and what was printed tells it.
+pub record AreRunTo {Device : Type 0} (store : State Device) (opening : Tree)
+    (before after : DiskSeen) (sink_before sink_after : SinkSeen) (tasks : List Task) (end : End)
+    : Type 0 where
+  pub ran : AreRun store.ring store.live opening before after tasks end
+  pub finishes : Finishes before.calls before.faults store.from opening after
+      sink_before sink_after tasks end end.stop
 
 -- The lines that the source spells were run, one after another, on a disk that was mounted with
 -- these transactions, the last of which has the number `base`, from the tree on that they make.

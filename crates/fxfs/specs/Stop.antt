@@ -5,20 +5,27 @@ use Rattle.fx_script.specs.Fault.{fault_word}
 use Rattle.fx_script.specs.declared.fault.LineFault.{LineFault}
 use Rattle.fx_mount.specs.declared.fault.MountFault.{MountFault}
 use Rattle.fx_mount.specs.declared.fault.MountFault.TheVariants as mounts
+use Rattle.fxfs.specs.declared.status.TheConstants as statuses
 use Rattle.fxfs.specs.declared.ended.Stop.{Stop}
 use Rattle.fxfs.specs.declared.ended.Stop.TheVariants.{Done, BadWords, NotMounted, Device, Read, Write, OutOfMemory, BadLine, TooMuchInput, DiskTooSmall}
 
 abbrev pub status_of : Stop → ℕ
-status_of Done = 0
-status_of BadWords = 2
-status_of (NotMounted fault) = 3
-status_of Device = 4
-status_of Read = 5
-status_of Write = 6
-status_of OutOfMemory = 7
-status_of (BadLine number fault) = 8
-status_of TooMuchInput = 10
-status_of (DiskTooSmall blocks) = 11
+status_of Done = statuses.DONE
+status_of BadWords = statuses.BAD_WORDS
+status_of (NotMounted fault) = statuses.NOT_MOUNTED
+status_of Device = statuses.DEVICE
+status_of Read = statuses.READ
+status_of Write = statuses.WRITE
+status_of OutOfMemory = statuses.OUT_OF_MEMORY
+status_of (BadLine number fault) = statuses.BAD_LINE
+status_of TooMuchInput = statuses.TOO_MUCH_INPUT
+status_of (DiskTooSmall blocks) = statuses.DISK_TOO_SMALL
+
+-- why a command stopped, by why its disk was not mounted
+abbrev pub stop_of : MountFault → Stop
+stop_of mounts.Device = Device
+stop_of mounts.OutOfMemory = OutOfMemory
+stop_of fault = NotMounted fault
 
 -- a line of words that end in a number
 abbrev pub numbered_line : List ℕ → ℕ → List ℕ

@@ -29,9 +29,9 @@ pub enum WordsFault {
     BadWords,
 }
 
-/// The command that the words are: `shell` alone, or `mkfs`, with `--journal N` or `--journal=N` once
-/// or not at all. N has 1 to 20 digits; a ring has [`MIN_RING`] blocks where the words do not say.
-/// Takes no memory.
+/// The command that the words are: `shell` alone, or `mkfs`, with `--journal N` or `--journal=N`
+/// once or not at all. N has 1 to 20 digits; a ring has [`MIN_RING`] blocks where the words do not
+/// say. Takes no memory.
 pub fn command_of(words: &[String]) -> Result<Command, WordsFault>
     ensures { IsCommandOf result (map string_bytes words.now) }
 {

@@ -1,7 +1,9 @@
 //! How a command ended.
-ghost use Rattle.std.specs.Prelude.{◌≡◌, []};
+ghost use Rattle.std.specs.Prelude.{◌≡◌};
+ghost use Rattle.fxfs.specs.Outside.{IsIdle, ended};
 ghost use Rattle.fxfs.specs.Stop.{status_of};
 
+use crate::status;
 use fx_history::{History, Outcomes};
 use fx_mount::MountFault;
 use fx_script::LineFault;
@@ -10,26 +12,26 @@ use std::alloc::Global;
 /// Why a command ended.
 #[derive(Clone, Copy, Debug, PartialEq, Eq)]
 pub enum Stop {
-    /// All is done: status 0.
+    /// All is done.
     Done,
-    /// The words are no command: status 2.
+    /// The words are no command.
     BadWords,
-    /// The disk was not mounted, for what it holds; no line was run: status 3. The fault is never
+    /// The disk was not mounted, for what it holds; no line was run. The fault is never
     /// `Device` nor `OutOfMemory`, which are causes of their own.
     NotMounted(MountFault),
-    /// The disk failed: status 4.
+    /// The disk failed.
     Device,
-    /// The source failed: status 5.
+    /// The source failed.
     Read,
-    /// The sink failed: status 6.
+    /// The sink failed.
     Write,
-    /// No memory was to be had outside a line: status 7.
+    /// No memory was to be had outside a line.
     OutOfMemory,
-    /// A line of the script is wrong, the first one; no line was run: status 8.
+    /// A line of the script is wrong, the first one; no line was run.
     BadLine { number: u32, fault: LineFault },
-    /// The source gave more than `MAX_INPUT` bytes; no line was run: status 10.
+    /// The source gave more than `MAX_INPUT` bytes; no line was run.
     TooMuchInput,
-    /// The disk has this number of blocks, which are too few for the ring or too many: status 11.
+    /// The disk has this number of blocks, which are too few for the ring or too many.
     DiskTooSmall(u32),
 }
 
@@ -39,19 +41,19 @@ impl Stop {
         ensures { result ≡ status_of self }
     {
         match self {
-            Stop::Done => 0,
-            Stop::BadWords => 2,
-            Stop::NotMounted(_) => 3,
-            Stop::Device => 4,
-            Stop::Read => 5,
-            Stop::Write => 6,
-            Stop::OutOfMemory => 7,
+            Stop::Done => status::DONE,
+            Stop::BadWords => status::BAD_WORDS,
+            Stop::NotMounted(_) => status::NOT_MOUNTED,
+            Stop::Device => status::DEVICE,
+            Stop::Read => status::READ,
+            Stop::Write => status::WRITE,
+            Stop::OutOfMemory => status::OUT_OF_MEMORY,
             Stop::BadLine {
                 number: _,
                 fault: _,
-            } => 8,
-            Stop::TooMuchInput => 10,
-            Stop::DiskTooSmall(_) => 11,
+            } => status::BAD_LINE,
+            Stop::TooMuchInput => status::TOO_MUCH_INPUT,
+            Stop::DiskTooSmall(_) => status::DISK_TOO_SMALL,
         }
     }
 }
@@ -79,9 +81,7 @@ impl<D> Ended<D> {
         ensures status { result.status ≡ status_of stop }
         ensures stop { result.stop ≡ stop }
         ensures disk { result.disk ≡ disk }
-        ensures base { result.base ≡ 0 }
-        ensures history { result.history ≡ [] }
-        ensures outcomes { result.outcomes ≡ [] }
+        ensures idle { IsIdle (ended result.stop result.base result.history result.outcomes) }
     {
         Ended {
             status: stop.status(),

@@ -3,12 +3,7 @@ ghost use Rattle.std.specs.Prelude.{◌≡◌};
 ghost use Rattle.fxfs.specs.Image.{image_of};
 
 use fx_script::read_number;
-
-/// The fewest blocks of a disk.
-pub const MIN_BLOCKS: u32 = 1_088;
-
-/// The most blocks of a disk.
-pub const MAX_BLOCKS: u32 = 65_536;
+use fx_super::{MAX_BLOCKS, MIN_BLOCKS};
 
 /// What the word for an image names.
 #[derive(Clone, Copy, Debug, PartialEq, Eq)]
@@ -21,8 +16,8 @@ pub enum ImageWord {
     Unfit,
 }
 
-/// What the word for an image names: `mem:` and a decimal number of blocks from 1,088 to 65,536 without
-/// a leading zero is a disk in memory, and what does not begin with `mem:` is a path.
+/// What the word for an image names: `mem:` and a decimal number of blocks from 1,088 to 65,536
+/// without a leading zero is a disk in memory, and what does not begin with `mem:` is a path.
 pub fn image_of(word: &str) -> ImageWord
     ensures { result ≡ image_of word.now }
 {

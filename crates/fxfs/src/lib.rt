@@ -8,14 +8,15 @@ mod image;
 mod line;
 mod mkfs;
 mod shell;
+pub mod status;
 mod top;
 
 pub use command::{Command, WordsFault, command_of};
 pub use ended::{Ended, Stop};
 pub use fx_history::{EndKind, Entry, History, Outcome, Outcomes};
-pub use fx_mount::MountFault;
-pub use fx_super::{MAX_RING, MIN_RING};
-pub use image::{ImageWord, MAX_BLOCKS, MIN_BLOCKS, image_of};
+pub use fx_mount::{MkfsFault, MountFault, mkfs as format_disk};
+pub use fx_super::{MAX_BLOCKS, MAX_RING, MIN_BLOCKS, MIN_RING};
+pub use image::{ImageWord, image_of};
 pub use mkfs::mkfs_call;
 pub use shell::{MAX_INPUT, shell_call};
 pub use top::fxfs_top;

@@ -13,9 +13,9 @@ use fx_io::Sink;
 use fx_mount::{MkfsFault, mkfs};
 use std::alloc::Global;
 
-/// Formats the disk with a ring of `ring` blocks, `MIN_RING` to `MAX_RING`, and writes the line that
-/// tells how many blocks the disk and its ring have, or the line that tells why it was not formatted.
-/// Takes no memory. Costs `ring + 4` calls of the disk.
+/// Formats the disk with a ring of `ring` blocks, `MIN_RING` to `MAX_RING`, and writes the line
+/// that tells how many blocks the disk and its ring have, or the line that tells why it was not
+/// formatted. Takes no memory. Costs `ring + 4` calls of the disk.
 pub fn mkfs_call<D: Disk, K: Sink>(alloc: Global, ring: u32, disk: D, out: &mut K) -> Ended<D>
     requires least { MIN_RING ≤ ring }
     requires most { ring ≤ MAX_RING }

@@ -1,23 +1,21 @@
 //! The command `shell`.
-ghost use Rattle.std.specs.Prelude.{◌≡◌, ◌≢◌, ℕ, ◌+◌, ◌≤◌, [], All, List, length, IfOk, IfErr, vec_capacity};
+ghost use Rattle.std.specs.Prelude.{◌≡◌, ◌+◌, ◌≤◌, [], length, IfOk, IfErr, vec_capacity};
 ghost use Rattle.fx_disk.specs.Seen.{GoesOn};
 ghost use Rattle.fx_io.specs.Told.{GivesAtMost};
 ghost use Rattle.fx_io.specs.Seen.{SourceGoesOn, SinkGoesOn};
 ghost use Rattle.fx_plain.specs.Tree.{Tree};
-ghost use Rattle.fx_script.specs.declared.script.Task.{Task};
-ghost use Rattle.fx_history.specs.Outcome.{LineEnd};
-ghost use Rattle.fx_history.specs.Transcript.{EndsNext, Session as IsSession};
+ghost use Rattle.fx_history.specs.Transcript.{EndsNext};
 ghost use Rattle.fx_store.specs.Line.{flushes};
-ghost use Rattle.fx_store.specs.Mounted.{EndsSync, LeavesImages, Opens, SameMount, TakesRing, TellsFaults, WritesEach};
-ghost use Rattle.fxfs.specs.Stop.{status_of};
+ghost use Rattle.fx_store.specs.Mounted.{EndsSync, KeepsLive, KeepsMount, LeavesSettled, Opens, SameMount, TakesRing, TellsFaults};
+ghost use Rattle.fxfs.specs.Stop.{status_of, stop_of};
 ghost use Rattle.fxfs.specs.Outside.{IsStopped, ended, outside};
-ghost use Rattle.fxfs.specs.Lines.{Spells, IsNoScript, Finishes, Lasts, SettlesIf, Tells, TellsEnd, TellsUnsynced};
-ghost use Rattle.fxfs.specs.Shell.{AreFull, AreRun, AreTold, ShellEnds, syncs_in};
+ghost use Rattle.fxfs.specs.Lines.{Spells, IsNoScript, KeepsSession, Lasts, SettlesIf, Tells, TellsEnd, TellsUnsynced};
+ghost use Rattle.fxfs.specs.Shell.{AreLines, AreRunTo, ShellEnds, syncs_in};
 
 use crate::ended::{Ended, Stop};
 use crate::line::write_stop;
 use fx_disk::Disk;
-use fx_history::{EndKind, History, Outcome, Outcomes, result_text};
+use fx_history::{History, Outcome, Outcomes, result_text};
 use fx_io::{ReadAllFault, Sink, Source, read_whole, write_whole};
 use fx_mount::{MountFault, Store, StoreEnd, Unmounted, mount};
 use fx_script::{Line, ScriptFault, SentLine, Tasks, read_script};
@@ -26,15 +24,15 @@ use std::alloc::Global;
 /// The most bytes of a script.
 pub const MAX_INPUT: u32 = 16_777_216;
 
-/// Reads the source to its end and its script, mounts the disk, does the lines one after another on the
-/// tree that its journal leads to, flushes what they made, and writes a result line for each line to the
-/// sink. Where that fails it writes the line that tells why, behind the result lines where the disk failed
-/// after them. `Ended` says which it was, the first cause in this order.
+/// Reads the source to its end and its script, mounts the disk, does the lines one after another on
+/// the tree that its journal leads to, flushes what they made, and writes a result line for each
+/// line to the sink. Where that fails it writes the line that tells why, behind the result lines
+/// where the disk failed after them. `Ended` says which it was, the first cause in this order.
 ///
-/// The memory for the outcomes is taken before the mount, so lines are never left half run; that for a
-/// line's task is taken and given back while the line is done. Costs the bytes of the script, of the
-/// results and of what the lines do, what a mount costs, and a write for each journal block that the
-/// commits fill or leave unfinished at a sync.
+/// The memory for the outcomes is taken before the mount, so lines are never left half run; that
+/// for a line's task is taken and given back while the line is done. Costs the bytes of the script,
+/// of the results and of what the lines do, what a mount costs, and a write for each journal block
+/// that the commits fill or leave unfinished at a sync.
 pub fn shell_call<D: Disk, S: Source, K: Sink>(
     alloc: Global,
     disk: D,
@@ -80,10 +78,7 @@ fn read_tasks<S: Source>(alloc: Global, src: &mut S) -> Result<Tasks, Stop>
 
 /// The cause where a disk was not mounted.
 fn mount_stop(fault: MountFault) -> Stop
-    ensures device { fault ≡ MountFault.Device → result ≡ Stop.Device }
-    ensures memory { fault ≡ MountFault.OutOfMemory → result ≡ Stop.OutOfMemory }
-    ensures image { fault ≢ MountFault.Device → fault ≢ MountFault.OutOfMemory →
-        result ≡ Stop.NotMounted fault }
+    ensures { result ≡ stop_of fault }
 {
     match fault {
         MountFault::Device => Stop::Device,
@@ -120,15 +115,11 @@ fn finish<D: Disk, K: Sink>(
     requires room { length tasks.now ≤ vec_capacity room }
     ensures status { result.status ≡ status_of result.stop }
     ensures base { result.base ≡ store.base }
-    ensures ran { (opening : Tree) → Opens store.txns opening →
-        AreRun store.ring store.live opening (D.seen store.disk) (D.seen result.disk) tasks.now
+    ensures ends { (opening : Tree) → Opens store.txns opening →
+        AreRunTo store opening (D.seen store.disk) (D.seen result.disk)
+        (K.seen out.old) (K.seen out.new) tasks.now
         (ended result.stop result.base result.history result.outcomes) }
-    ensures finishes { (opening : Tree) → Opens store.txns opening →
-        Finishes (D.seen store.disk).calls (D.seen store.disk).faults store.from opening
-        (D.seen result.disk) (K.seen out.old) (K.seen out.new) tasks.now
-        (ended result.stop result.base result.history result.outcomes) result.stop }
-    ensures settled { All (λ entry. entry.settled ≤ (D.seen result.disk).calls) result.history }
-    ensures images { LeavesImages (D.seen result.disk) store result.history }
+    ensures leaves { LeavesSettled (D.seen result.disk) store result.history }
     ensures disk { GoesOn (D.seen store.disk) (D.seen result.disk) }
     ensures sink { SinkGoesOn (K.seen out.old) (K.seen out.new) }
 {
@@ -151,8 +142,8 @@ fn finish<D: Disk, K: Sink>(
     }
 }
 
-/// Does a line that was checked. Its task is built for this call alone; where there is no memory for it
-/// nothing is done.
+/// Does a line that was checked. Its task is built for this call alone; where there is no memory
+/// for it nothing is done.
 fn run_line<D: Disk>(alloc: Global, store: &mut Store<D>, line: &SentLine<'_>) -> Outcome
     ensures ends { (opening : Tree) → Opens store.old.txns opening →
         EndsNext opening store.old.base store.old.history store.new.history
@@ -161,15 +152,13 @@ fn run_line<D: Disk>(alloc: Global, store: &mut Store<D>, line: &SentLine<'_>) -
     ensures syncs { line.now.line ≡ Line.Sync →
         EndsSync (D.seen store.old.disk) (D.seen store.new.disk) store.old store.new result.kind }
     ensures faults { TellsFaults (D.seen store.old.disk) (D.seen store.new.disk) result.kind }
-    ensures each { WritesEach (flushes line.now.line)
+    ensures keeps { KeepsMount (flushes line.now.line)
         (D.seen store.old.disk) (D.seen store.new.disk) store.old store.new }
-    ensures mount { SameMount store.old store.new }
-    ensures disk { GoesOn (D.seen store.old.disk) (D.seen store.new.disk) }
 {
     let Ok(task) = line.task(alloc) else {
-        return Outcome::new(store.number(), EndKind::OutOfMemory);
+        return store.out_of_memory();
     };
-    store.exec(alloc, &task)
+    store.exec(alloc, task)
 }
 
 /// Does the lines in their order, in the room for their outcomes.
@@ -178,15 +167,12 @@ fn run<D: Disk>(alloc: Global, store: &mut Store<D>, tasks: &Tasks, room: Vec<Ou
     requires empty { room.items ≡ [] }
     requires room { length tasks.now ≤ vec_capacity room }
     ensures one_each { length result ≡ length tasks.now }
-    ensures session { (opening : Tree) → Opens store.old.txns opening →
-        IsSession opening store.old.base store.new.history tasks.now result }
-    ensures full { (opening : Tree) → Opens store.old.txns opening →
-        AreFull store.old.ring store.old.live store.old.base result }
-    ensures told { (opening : Tree) → Opens store.old.txns opening →
-        AreTold (D.seen store.old.disk) (D.seen store.new.disk) result }
+    ensures lines { (opening : Tree) → Opens store.old.txns opening →
+        AreLines opening (D.seen store.old.disk) (D.seen store.new.disk)
+        store.old store.new tasks.now result }
 
-    // A commit takes one block at most, which waits until one call writes it, and a line `sync` makes
-    // one call more at most.
+    // A commit takes one block at most, which waits until one call writes it, and a line `sync`
+    // makes one call more at most.
     ensures most { (D.seen store.new.disk).calls + store.new.waiting ≤ (D.seen store.old.disk).calls
         + store.old.waiting + length store.new.history + syncs_in tasks.now }
 
@@ -208,10 +194,8 @@ fn flush<D: Disk>(store: &mut Store<D>) -> bool
         opening store.old.base store.new.history [] (D.seen store.new.disk) }
     ensures settles { SettlesIf result (D.seen store.new.disk).calls
         store.old.history store.new.history }
-    ensures most { (D.seen store.new.disk).calls ≤
-        (D.seen store.old.disk).calls + store.old.waiting + 1 }
-    ensures mount { SameMount store.old store.new }
-    ensures disk { GoesOn (D.seen store.old.disk) (D.seen store.new.disk) }
+    ensures keeps { KeepsLive (D.seen store.old.disk) (D.seen store.new.disk)
+        store.old store.new result }
 {
     let Ok(_) = store.sync() else {
         return false;
@@ -235,13 +219,9 @@ fn close<D: Disk>(store: Store<D>) -> Closed<D>
         Lasts result.is_flushed (D.seen store.disk).calls (D.seen store.disk).faults store.from
         opening store.base result.history [] (D.seen result.disk) }
 
-    // A session stays one: where the disk was flushed its history is settled, and else as it was.
-    ensures session { (opening : Tree) (tasks : List Task) (outcomes : List LineEnd) →
-        IsSession opening store.base store.history tasks outcomes →
-        IsSession opening store.base result.history tasks outcomes }
-    ensures as_many { length result.history ≡ length store.history }
-    ensures settled { All (λ entry. entry.settled ≤ (D.seen result.disk).calls) result.history }
-    ensures images { LeavesImages (D.seen result.disk) store result.history }
+    // Where the disk was flushed the history is settled, and else as it was.
+    ensures session { KeepsSession store.base store.history result.history }
+    ensures leaves { LeavesSettled (D.seen result.disk) store result.history }
     ensures most { (D.seen result.disk).calls ≤ (D.seen store.disk).calls + store.waiting + 1 }
     ensures disk { GoesOn (D.seen store.disk) (D.seen result.disk) }
 {
@@ -295,8 +275,8 @@ fn tell<K: Sink>(alloc: Global, tasks: &Tasks, outcomes: &[Outcome], out: &mut K
     }
 }
 
-/// Writes the result lines and the stop line, once all lines were run and the disk failed after them, and
-/// gives the cause.
+/// Writes the result lines and the stop line, once all lines were run and the disk failed after
+/// them, and gives the cause.
 fn tell_unsynced<K: Sink>(alloc: Global, tasks: &Tasks, outcomes: &[Outcome], out: &mut K) -> Stop
     requires { length outcomes.now ≡ length tasks.now }
     ensures device { result ≡ Stop.Device }

@@ -5,6 +5,7 @@ ghost use Rattle.fxfs.specs.Command.{command_of};
 ghost use Rattle.fxfs.specs.Stop.{status_of};
 ghost use Rattle.fxfs.specs.Outside.{ended, outside};
 ghost use Rattle.fxfs.specs.Top.{Does};
+ghost use Rattle.fxfs.specs.declared.status.TheConstants.{BAD_WORDS};
 
 use crate::command::{Command, WordsFault, command_of};
 use crate::ended::{Ended, Stop};
@@ -30,9 +31,9 @@ pub fn fxfs_top<D: Disk, S: Source, K: Sink>(
         (outside (D.seen result.disk) (S.seen src.new) (K.seen out.new))
         (ended result.stop result.base result.history result.outcomes) }
 
-    // Status 2: the disk and the source were not touched.
-    ensures unread { result.status ≡ 2 → src.new ≡ src.old }
-    ensures untouched { result.status ≡ 2 → result.disk ≡ disk }
+    // Where the words are no command the disk and the source were not touched.
+    ensures unread { result.status ≡ BAD_WORDS → src.new ≡ src.old }
+    ensures untouched { result.status ≡ BAD_WORDS → result.disk ≡ disk }
 {
     match command_of(words) {
         Ok(Command::Shell) => shell_call(alloc, disk, src, out),

@@ -1,11 +1,11 @@
-//! The program `fxfs IMAGE COMMAND ..`: the top call over a disk, standard input and standard output.
+//! The program `fxfs IMAGE COMMAND ..`: the top call over a disk, standard input and standard
+//! output.
 #![tactic(auto)]
 
 use fx_disk::Disk;
 use fx_disks::{FileDisk, MemDisk};
 use fx_io::{Sink, Source, StdSink, StdSource};
-use fx_mount::mkfs;
-use fxfs::{ImageWord, MIN_RING, fxfs_top, image_of};
+use fxfs::{ImageWord, MIN_RING, format_disk, fxfs_top, image_of, status};
 use std::alloc::{AllocError, Global};
 use std::fs::{File, OpenOptions};
 use std::io::ErrorKind;
@@ -29,8 +29,8 @@ impl Refusal {
     /// The status that the program ends with.
     fn status(self) -> u8 {
         match self {
-            Refusal::Image => 12,
-            Refusal::Memory => 7,
+            Refusal::Image => status::NO_IMAGE,
+            Refusal::Memory => status::OUT_OF_MEMORY,
         }
     }
 }
@@ -54,8 +54,9 @@ fn nothing<R: Files<File = File>>(rt: &R) -> io::Result<File> {
 }
 
 fn main(rt: HostRuntime) -> ExitCode {
-    // Standard streams that are closed leave their numbers free, and a file that is opened takes the least free one.
-    // So that the image is never written to as standard output, these are taken first.
+    // Standard streams that are closed leave their numbers free, and a file that is opened takes
+    // the least free one. So that the image is never written to as standard output, these are taken
+    // first.
     let _held = (nothing(&rt), nothing(&rt), nothing(&rt));
     let words = match words_of(&rt) {
         Ok(words) => words,
@@ -125,7 +126,7 @@ fn open<R: Files<File = File> + AllocGlobal>(rt: &R, word: &str) -> Result<Opene
 /// A disk in memory that begins with what a format leaves, and has made no calls itself.
 fn formatted(alloc: Global, blocks: u32) -> Result<MemDisk, AllocError> {
     let mut disk = MemDisk::new(alloc, blocks)?;
-    if mkfs(&mut disk, MIN_RING).is_err() {
+    if format_disk(&mut disk, MIN_RING).is_err() {
         return Err(AllocError);
     }
     let _blocks = disk.blocks();

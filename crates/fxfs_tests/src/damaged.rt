@@ -36,7 +36,8 @@ fn push_value(bytes: &mut Vec<u8>, value: &str) -> Result<(), AllocError> {
     }
 }
 
-/// Appends an item: `NODE VALUE` is a node's Object, `NODE NAME VALUE` a child, of a name of one letter.
+/// Appends an item: `NODE VALUE` is a node's Object, `NODE NAME VALUE` a child, of a name of one
+/// letter.
 fn push_item(bytes: &mut Vec<u8>, item: &str) -> Result<(), AllocError> {
     let (node, rest) = item.split_once(' ').unwrap_or((item, ""));
     let Some((name, value)) = rest.split_once(' ') else {
@@ -71,8 +72,8 @@ fn push_transaction(
     bytes.extend_from_slice(&body)
 }
 
-/// Appends a record: a transaction, `NUMBER: ITEMS`; or `discard NUMBER`; or `empty`, of length 0; or
-/// `cut`, two bytes of a length.
+/// Appends a record: a transaction, `NUMBER: ITEMS`; or `discard NUMBER`; or `empty`, of length 0;
+/// or `cut`, two bytes of a length.
 fn push_record(alloc: Global, bytes: &mut Vec<u8>, record: &str) -> Result<(), AllocError> {
     if let Some((number, items)) = record.split_once(':') {
         return push_transaction(alloc, bytes, number, items);
@@ -97,15 +98,16 @@ fn records_of(alloc: Global, text: &str) -> Result<Vec<u8>, AllocError> {
     Ok(bytes)
 }
 
-/// How `list /` ends on an image whose journal holds these records. It fails where they fill no block.
+/// How `list /` ends on an image whose journal holds these records. It fails where they fill no
+/// block.
 fn listed(alloc: Global, records: &str) -> Result<String, AllocError> {
     let bytes = records_of(alloc, records)?;
     let run = told_on(alloc, with_journal(alloc, &bytes)?, b"list /\n")?;
     summary(alloc, &run)
 }
 
-/// What a journal's one block holds, and how `list /` ends on the image: the status, the calls of the disk and the
-/// output.
+/// What a journal's one block holds, and how `list /` ends on the image: the status, the calls of
+/// the disk and the output.
 const JOURNALS: &str = "\
 1: 0.0 v 1.0, 1.0 dir => 0 3 1 1 list 1 1 v~
 1: 0.0 v 1.0, 1.0 dir; cut => 0 3 1 1 list 1 1 v~

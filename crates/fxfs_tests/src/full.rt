@@ -20,7 +20,8 @@ fn filling_script(alloc: Global) -> Result<String, AllocError> {
     Ok(script)
 }
 
-/// What is told of the lines that fill the ring, each sync of which makes two calls of the disk, and then this.
+/// What is told of the lines that fill the ring, each sync of which makes two calls of the disk,
+/// and then this.
 fn filling_told(alloc: Global, behind: &str) -> Result<String, AllocError> {
     let mut told = String::from_str(alloc, "0 512 ")?;
     for number in 1..=TAKEN {

@@ -15,8 +15,8 @@ const BLOCKS: u32 = 1_088;
 /// Where each commit and each layer of an image counts from is too near to its bound.
 const LAST_GENERATION: u64 = (1 << 63) - 1;
 
-/// A disk that is named in a table: `blank N`, of N blocks of zeros, `formatted`, or one whose first
-/// superblock a session cannot go on from.
+/// A disk that is named in a table: `blank N`, of N blocks of zeros, `formatted`, or one whose
+/// first superblock a session cannot go on from.
 pub(crate) fn disk_of(alloc: Global, name: &str) -> Result<MemDisk, AllocError> {
     if name == "formatted" {
         return formatted(alloc);
@@ -86,8 +86,8 @@ fn journal_of(records: &[u8]) -> Option<[u8; 4096]> {
     Some(block)
 }
 
-/// A disk with the first superblock, whose journal is one block that holds these bytes. It fails where they
-/// are too many or none.
+/// A disk with the first superblock, whose journal is one block that holds these bytes. It fails
+/// where they are too many or none.
 pub(crate) fn with_journal(alloc: Global, records: &[u8]) -> Result<MemDisk, AllocError> {
     let journal = journal_of(records).ok_or(AllocError)?;
     let mut first = [0; 4096];
@@ -127,8 +127,8 @@ fn disk_on(alloc: Global, image: Image) -> Option<MemDisk> {
     Some(MemDisk::from_image(alloc, image))
 }
 
-/// A disk that begins as a stop of this one at this moment leaves it by these picks, if there is such an
-/// image.
+/// A disk that begins as a stop of this one at this moment leaves it by these picks, if there is
+/// such an image.
 pub(crate) fn left_at(
     alloc: Global,
     disk: &MemDisk,
@@ -141,13 +141,14 @@ pub(crate) fn left_at(
     }
 }
 
-/// A disk that begins as this one was left by its last call. A block that is loose has its settled bytes.
+/// A disk that begins as this one was left by its last call. A block that is loose has its settled
+/// bytes.
 pub(crate) fn left_by(alloc: Global, disk: &MemDisk) -> Result<MemDisk, AllocError> {
     left_at(alloc, disk, disk.calls(), &[])?.ok_or(AllocError)
 }
 
-/// What may be left in a loose block, by its name in a table: `settled`, `zeros`, and `written CALL` or
-/// `half CALL`, all or half of what this call wrote. No block has what another name says.
+/// What may be left in a loose block, by its name in a table: `settled`, `zeros`, and `written
+/// CALL` or `half CALL`, all or half of what this call wrote. No block has what another name says.
 fn loose_of(name: &str) -> Loose {
     let (kind, call) = halves(name, " ");
     match kind {
@@ -178,8 +179,8 @@ fn picks_of(alloc: Global, text: &str) -> Result<Vec<Pick>, AllocError> {
     Ok(picks)
 }
 
-/// A disk that begins as a stop of this one at this moment leaves it by the picks of the text. It fails where
-/// there is no such image.
+/// A disk that begins as a stop of this one at this moment leaves it by the picks of the text. It
+/// fails where there is no such image.
 pub(crate) fn left_as(
     alloc: Global,
     disk: &MemDisk,

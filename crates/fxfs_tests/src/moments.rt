@@ -14,8 +14,8 @@ fn listed_on(alloc: Global, disk: MemDisk) -> Result<String, AllocError> {
     shown(alloc, &run.text)
 }
 
-/// What `list /` tells of the image that a stop of the disk leaves at a place, `MOMENT | PICKS`. Such an image
-/// is left.
+/// What `list /` tells of the image that a stop of the disk leaves at a place, `MOMENT | PICKS`.
+/// Such an image is left.
 fn listed_at(alloc: Global, disk: &MemDisk, place: &str) -> Result<String, AllocError> {
     let (moment, picks) = halves(place, " | ");
     let again = left_as(alloc, disk, number_of(moment), picks)?;
@@ -58,8 +58,8 @@ fn two_synced_blocks(rt: &(impl Abort + AllocGlobal)) -> Result<MemDisk, AllocEr
     expect_disk(rt, run, "0 6 1 1 ok 1~1 2 synced 1 4~1 3 ok 2~")
 }
 
-/// For each moment each of the texts that its loose block may hold, as the call that writes it leaves it,
-/// and what is listed then: the number of commits that were kept, and the names.
+/// For each moment each of the texts that its loose block may hold, as the call that writes it
+/// leaves it, and what is listed then: the number of commits that were kept, and the names.
 const LEFT: &str = "\
 0 | 1 settled => 0 0
 0 | 1 written 1 => 0 0
@@ -97,8 +97,8 @@ fn what_is_left_at_each_moment(rt: HostRuntime) -> Result<(), AllocError> {
     Ok(())
 }
 
-/// The disk after two commits, each in a block of its own, of which neither was flushed: the sync in
-/// between fails at its flush, call 4, and the shell's end is stopped before its own, call 6.
+/// The disk after two commits, each in a block of its own, of which neither was flushed: the sync
+/// in between fails at its flush, call 4, and the shell's end is stopped before its own, call 6.
 fn two_loose_blocks(rt: &(impl Abort + AllocGlobal)) -> Result<MemDisk, AllocError> {
     let run = told_failing(rt.alloc(), b"mkdir /a\nsync\nmkdir /b\n", 4)?;
     expect_disk(rt, run, "0 6 1 1 ok 1~1 2 err 1 0 device~1 3 ok 2~")
@@ -138,7 +138,8 @@ fn second_run(alloc: Global, disk: &MemDisk, picks: &str) -> Result<Run, AllocEr
     told_on(alloc, again, b"list /\nmkdir /a\nsync\n")
 }
 
-/// Makes the first commit again on an image whose second block alone was written, and gives the disk.
+/// Makes the first commit again on an image whose second block alone was written, and gives the
+/// disk.
 fn second_session(rt: &(impl Abort + AllocGlobal), picks: &str) -> Result<MemDisk, AllocError> {
     let disk = two_loose_blocks(rt)?;
     let run = second_run(rt.alloc(), &disk, picks)?;
@@ -225,8 +226,8 @@ fn settled_by(history: &[Entry], moment: u64) -> u64 {
     last
 }
 
-/// What may be left in a loose block, by a number: its settled bytes, zeros, and then for each call all and
-/// half of what it wrote.
+/// What may be left in a loose block, by a number: its settled bytes, zeros, and then for each call
+/// all and half of what it wrote.
 fn loose_by(number: u64) -> Loose {
     let call = number / 2;
     match (call, number % 2) {
@@ -237,8 +238,8 @@ fn loose_by(number: u64) -> Loose {
     }
 }
 
-/// Appends the images that a stop at this moment may leave by a pick of this block: its settled bytes, zeros,
-/// and each write by the call after the moment.
+/// Appends the images that a stop at this moment may leave by a pick of this block: its settled
+/// bytes, zeros, and each write by the call after the moment.
 fn push_images(
     alloc: Global,
     images: &mut Vec<MemDisk>,
@@ -255,8 +256,8 @@ fn push_images(
     Ok(())
 }
 
-/// The images that a stop at this moment may leave in which at most one loose block, of the first eight,
-/// has other bytes than its settled ones.
+/// The images that a stop at this moment may leave in which at most one loose block, of the first
+/// eight, has other bytes than its settled ones.
 fn images_at(alloc: Global, disk: &MemDisk, moment: u64) -> Result<Vec<MemDisk>, AllocError> {
     let mut images = Vec::new(alloc);
     for block in 0..8 {
@@ -294,8 +295,8 @@ fn expect_looked(
     Ok(())
 }
 
-/// Looks at each image that a stop of a look at this moment may leave, which has kept the same. Gives how
-/// many there are.
+/// Looks at each image that a stop of a look at this moment may leave, which has kept the same.
+/// Gives how many there are.
 fn look_again_at(
     rt: &(impl Abort + AllocGlobal),
     run: &Run,
@@ -329,8 +330,8 @@ fn look_twice(
     look_again(rt, &run)
 }
 
-/// Looks at each image that a stop at this moment may leave, and again. Gives how many images there were,
-/// and how many in the looks.
+/// Looks at each image that a stop at this moment may leave, and again. Gives how many images there
+/// were, and how many in the looks.
 fn look_at(
     rt: &(impl Abort + AllocGlobal),
     run: &Run,
@@ -360,8 +361,8 @@ fn expect_looks(
     Ok(())
 }
 
-// At eight of the nine moments one block is loose, which holds one of four texts. A look makes three calls,
-// at two of whose moments one is, so it leaves ten images.
+// At eight of the nine moments one block is loose, which holds one of four texts. A look makes
+// three calls, at two of whose moments one is, so it leaves ten images.
 fn look_at_each(
     rt: &(impl Abort + AllocGlobal),
     run: &Run,
@@ -382,8 +383,8 @@ fn every_stop_keeps_a_front_of_the_lines(rt: HostRuntime) -> Result<(), AllocErr
     Ok(())
 }
 
-/// For each call of the disk that fails: how many images are left by the last call, and the status, the
-/// calls and what is told.
+/// For each call of the disk that fails: how many images are left by the last call, and the status,
+/// the calls and what is told.
 const FAILING: &str = "\
 0 | 1 => 0 8 1 1 ok 1~1 2 ok 2~1 3 ok 3~1 4 synced 3 4~1 5 ok 4~1 6 ok 5~1 7 ok 6~1 8 synced 6 6~1 9 ok 7~1 10 ok 8~
 3 | 1 => 0 8 1 1 ok 1~1 2 ok 2~1 3 ok 3~1 4 err 3 0 device~1 5 ok 4~1 6 ok 5~1 7 ok 6~1 8 synced 6 6~1 9 ok 7~1 10 ok 8~

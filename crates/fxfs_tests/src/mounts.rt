@@ -12,8 +12,8 @@ use std::test::Fail;
 /// The fewest blocks of a disk with a ring of 256 blocks.
 const BLOCKS: u32 = 1_088;
 
-/// Lines and how they end. The disk is mounted before the first one, and again at each empty line: the
-/// format makes 260 calls, a mount two, and a sync one for each block that waits and one more.
+/// Lines and how they end. The disk is mounted before the first one, and again at each empty line:
+/// the format makes 260 calls, a mount two, and a sync one for each block that waits and one more.
 const ROWS: &str = "mkdir /v => ok 1
 create /v/a => ok 2
 write /v/a 0 hi => ok 3
@@ -59,7 +59,7 @@ fn outcome_of<D: Disk>(alloc: Global, store: &mut Store<D>, tasks: &Tasks) -> Op
     let Ok(task) = line.task(alloc) else {
         return None;
     };
-    Some(store.exec(alloc, &task))
+    Some(store.exec(alloc, task))
 }
 
 /// What is told of the line.

@@ -1,5 +1,5 @@
-//! Commands run on disks in memory, with both ends of the script in memory too. What these calls promise is
-//! not said again here: a test looks at what it got.
+//! Commands run on disks in memory, with both ends of the script in memory too. What these calls
+//! promise is not said again here: a test looks at what it got.
 use crate::images::{formatted, left_by};
 use crate::rows::{halves, number_of, shown};
 use fx_disk::Disk;
@@ -142,8 +142,8 @@ pub(crate) fn summary(alloc: Global, run: &Run) -> Result<String, AllocError> {
     format!(in alloc; "{status} {calls} {text}")
 }
 
-/// Asserts how a run ended: its status, the calls of its disk and its output, in which a `~` stands for a
-/// line feed.
+/// Asserts how a run ended: its status, the calls of its disk and its output, in which a `~` stands
+/// for a line feed.
 pub(crate) fn expect(
     rt: &(impl Abort + AllocGlobal),
     run: &Run,
@@ -175,7 +175,8 @@ pub(crate) fn expect_behind(
     expect(rt, &again, wanted)
 }
 
-/// What fails, by its name in a table: `call N` or `read N` of the disk, `source N`, `sink N`, or nothing.
+/// What fails, by its name in a table: `call N` or `read N` of the disk, `source N`, `sink N`, or
+/// nothing.
 pub(crate) fn fails_of(name: &str) -> Fails {
     let (end, number) = halves(name, " ");
     let number = number_of(number);

@@ -1,4 +1,5 @@
-//! Scripts, and what the top call makes of them. Each end of the script is in memory, and so is the disk.
+//! Scripts, and what the top call makes of them. Each end of the script is in memory, and so is the
+//! disk.
 use crate::images::{disk_of, formatted, left_at};
 use crate::rows::{expect_count, expect_same, halves, lines_of};
 use crate::runs::{NONE, Run, fails_of, summary, told, told_fresh, told_on};
@@ -6,8 +7,8 @@ use fx_disks::{Loose, MemDisk, Pick};
 use std::alloc::{AllocError, Global};
 use std::process::Abort;
 
-/// Scripts on a formatted disk, and how they end: the status, the calls of the disk and the output. A `~` stands for a
-/// line feed.
+/// Scripts on a formatted disk, and how they end: the status, the calls of the disk and the output.
+/// A `~` stands for a line feed.
 const SCRIPTS: &str = "\
 mkdir /v~mkdir /v~mkdir /v/w~mkdir /x/y~ => 0 4 1 1 ok 1~1 2 err 1 1 exists~1 3 ok 2~1 4 err 2 1 notfound~
 mkdir /v~create /v/a~create /v/a~ => 0 4 1 1 ok 1~1 2 ok 2~1 3 err 2 1 exists~
@@ -144,8 +145,8 @@ fn expect_case(rt: &(impl Abort + AllocGlobal), row: &str) -> Result<(), AllocEr
     Ok(())
 }
 
-/// Each row is a case, and then the status, the number of device calls and the output. A `~` stands for a
-/// line feed.
+/// Each row is a case, and then the status, the number of device calls and the output. A `~` stands
+/// for a line feed.
 const CASES: &str = "\
 formatted | shell | | => 0 3 
 formatted | shell | mkdir /v~ | => 0 4 1 1 ok 1~
@@ -218,7 +219,8 @@ fn status_on(alloc: Global, disk: MemDisk) -> Result<u8, AllocError> {
     Ok(run.ended.status)
 }
 
-/// The status of a shell on the image that a stop of the disk at this moment leaves, if it leaves one.
+/// The status of a shell on the image that a stop of the disk at this moment leaves, if it leaves
+/// one.
 fn status_after(
     alloc: Global,
     disk: &MemDisk,
@@ -261,7 +263,8 @@ fn formatted_now(alloc: Global) -> Result<MemDisk, AllocError> {
     Ok(run.ended.disk)
 }
 
-/// Asserts that there is no superblock where a stop leaves this block, which the call of its number writes.
+/// Asserts that there is no superblock where a stop leaves this block, which the call of its number
+/// writes.
 fn expect_none_within(
     rt: &(impl Abort + AllocGlobal),
     disk: &MemDisk,

@@ -1,4 +1,4 @@
-use Rattle.std.proofs.Common.{◌≡◌, List, ℕ, subst}
+use Rattle.std.proofs.Common.{subst}
 use Rattle.std.specs.Prelude.{Result, Ok, Err}
 use Rattle.fx_super.specs.declared.superblock.Super.{Super}
 use Rattle.fx_super.specs.declared.decode.SuperFault.{SuperFault}

@@ -1,4 +1,4 @@
-use Rattle.std.proofs.Common.{◌≡◌, ℕ, ◌≤◌, ◌<◌, ◌++◌, ◌∷◌, List, get_or, length, sym, subst, arith}
+use Rattle.std.proofs.Common.{◌≡◌, ℕ, ◌++◌, ◌∷◌, List, get_or, subst, arith}
 use Rattle.fx_mount.proofs.Finding.{first-of, first-of-second}
 use Rattle.fx_mount.proofs.find.first_layer.Goals as goal
 

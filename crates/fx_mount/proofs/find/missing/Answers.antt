@@ -1,4 +1,4 @@
-use Rattle.std.proofs.Common.{◌≡◌, List, ℕ, subst, inl, inr}
+use Rattle.std.proofs.Common.{subst, inl, inr}
 use Rattle.std.specs.Prelude.{Err}
 use Rattle.fx_super.specs.declared.decode.SuperFault.{SuperFault}
 use Rattle.fx_super.specs.Super.{Decoded}

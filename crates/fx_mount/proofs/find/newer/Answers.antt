@@ -1,6 +1,6 @@
-use Rattle.std.proofs.Common.{◌≡◌, ℕ, sym, ◌∙◌, ap}
+use Rattle.std.proofs.Common.{sym, ◌∙◌, ap}
 use Rattle.std.specs.Prelude.{Some}
-use Rattle.fx_mount.proofs.Finding.{first-newer, second-newer, first-chosen, second-chosen, none-chosen}
+use Rattle.fx_mount.proofs.Finding.{first-newer, second-newer, first-chosen, second-chosen}
 use Rattle.fx_mount.proofs.find.newer.Goals as goal
 
 pub returns-in-Some-A-clause-chosen : goal.returns-in-Some-A-clause-chosen

@@ -1,4 +1,4 @@
-use Rattle.std.proofs.Common.{◌≡◌, ℕ, ◌+◌, ◌≤◌, ◌<◌, ◌∙◌, refl, subst, arith, List, true}
+use Rattle.std.proofs.Common.{◌≡◌, ℕ, ◌+◌, refl, subst, arith, List, true}
 use Rattle.fx_base.specs.Blocks.{zero_bytes}
 use Rattle.fx_disk.specs.Seen.{DiskSeen, HasWritten}
 use Rattle.fx_disk.specs.Steps.{Writes}

@@ -1,5 +1,4 @@
-use Rattle.std.proofs.Common.{◌≡◌, ◌∙◌, ℕ, sym, ap, subst, arith}
-use Rattle.fx_disk.specs.Seen.{DiskSeen}
+use Rattle.std.proofs.Common.{◌∙◌, ℕ, refl, sym, subst, arith}
 use Rattle.fx_disk.proofs.Frames.{goes_then, only_read_goes}
 use Rattle.fx_store.specs.Mounted.{LeavesOpening}
 use Rattle.fx_mount.specs.declared.fault.MountFault.{MountFault}
@@ -32,8 +31,10 @@ returns-in-Ok-begin-clause-new g c = record {
   from = c.in-Ok-begin.ensures.begun.from ∙ c.read.ensures.only.calls;
   history = c.in-Ok-begin.ensures.begun.history;
   waiting = c.in-Ok-begin.ensures.begun.waiting;
-  calls = omega (arith, c.in-Ok-begin.ensures.two.0, c.read.ensures.only.calls);
-  faults = c.in-Ok-begin.ensures.two.1.faults ∙ c.in-Ok.ensures.well.faults;
+  ring = has_ring (g.D.Disk.seen c.args.disk) c.in-Ok.it.0 c.in-Ok.it.1 c.in-Ok.ensures.read c.in-Ok-begin.store.ring c.in-Ok-begin.store.live
+      c.in-Ok-begin.ensures.begun.ring c.in-Ok-begin.ensures.begun.live;
+  calls = omega (arith, c.in-Ok-begin.ensures.begun.calls, c.read.ensures.only.calls);
+  faults = c.in-Ok-begin.ensures.begun.called.faults ∙ c.in-Ok.ensures.well.faults;
 }
 
 pub returns-in-Ok-begin-clause-opens : goal.returns-in-Ok-begin-clause-opens
@@ -47,11 +48,6 @@ returns-in-Ok-begin-clause-takes g c r f txns tree told is =
     c.in-Ok-begin.ensures.begun.base c.in-Ok-begin.ensures.begun.txns in
     answers_same (g.D.Disk.seen c.args.disk) r f txns tree told is c.in-Ok-begin.store.base c.in-Ok-begin.store.txns at.0 at.2
 
-pub returns-in-Ok-begin-clause-ring : goal.returns-in-Ok-begin-clause-ring
-returns-in-Ok-begin-clause-ring g c =
-    has_ring (g.D.Disk.seen c.args.disk) c.in-Ok.it.0 c.in-Ok.it.1 c.in-Ok.ensures.read c.in-Ok-begin.store.ring c.in-Ok-begin.store.live
-    c.in-Ok-begin.ensures.begun.ring c.in-Ok-begin.ensures.begun.live
-
 pub returns-in-Ok-begin-clause-goes : goal.returns-in-Ok-begin-clause-goes
 returns-in-Ok-begin-clause-goes g c =
     goes_then (g.D.Disk.seen c.args.disk) (g.D.Disk.seen c.read.new.disk) (g.D.Disk.seen c.in-Ok-begin.store.disk)
@@ -62,15 +58,13 @@ returns-in-Ok-begin-clause-goes g c =
 pub returns-in-Err-begin-clause-cause : goal.returns-in-Err-begin-clause-cause
 returns-in-Err-begin-clause-cause g c =
     subst (λ (fault : MountFault). IsMountCause (g.D.Disk.seen c.args.disk) (g.D.Disk.seen c.in-Err-begin.un.disk) fault) (sym c.from.ensures)
-    (cause_begin (g.D.Disk.seen c.args.disk) (g.D.Disk.seen c.read.new.disk) (g.D.Disk.seen c.in-Err-begin.un.disk) c.in-Ok.ensures.well c.in-Err-begin.un.fault
-    (λ e. ap g.D.Disk.seen (c.in-Err-begin.ensures.memory e)) c.in-Err-begin.ensures.device)
+    (cause_begin (g.D.Disk.seen c.args.disk) (g.D.Disk.seen c.read.new.disk) c.in-Ok.ensures.well g.D.Disk.seen c.read.new.disk refl c.in-Err-begin.un c.in-Err-begin.un.fault c.in-Err-begin.ensures.cause)
 
 pub returns-in-Err-begin-clause-takes : goal.returns-in-Err-begin-clause-takes
 returns-in-Err-begin-clause-takes g c r f txns tree told is =
     answers_free (g.D.Disk.seen c.args.disk) r f txns tree told is (g.D.Disk.seen c.in-Err-begin.un.disk) c.from.result
     (subst (λ (fault : MountFault). IsMountCause (g.D.Disk.seen c.args.disk) (g.D.Disk.seen c.in-Err-begin.un.disk) fault) (sym c.from.ensures)
-    (cause_begin (g.D.Disk.seen c.args.disk) (g.D.Disk.seen c.read.new.disk) (g.D.Disk.seen c.in-Err-begin.un.disk) c.in-Ok.ensures.well c.in-Err-begin.un.fault
-    (λ e. ap g.D.Disk.seen (c.in-Err-begin.ensures.memory e)) c.in-Err-begin.ensures.device))
+    (cause_begin (g.D.Disk.seen c.args.disk) (g.D.Disk.seen c.read.new.disk) c.in-Ok.ensures.well g.D.Disk.seen c.read.new.disk refl c.in-Err-begin.un c.in-Err-begin.un.fault c.in-Err-begin.ensures.cause))
 
 pub returns-in-Err-begin-clause-opening : goal.returns-in-Err-begin-clause-opening
 returns-in-Err-begin-clause-opening g c =

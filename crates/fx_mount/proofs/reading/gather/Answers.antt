@@ -1,5 +1,5 @@
-use Rattle.std.proofs.Common.{◌≡◌, ◌∷◌, ℕ, ◌<◌, ◌≤◌, ◌+◌, List, All, length, drop, sym, ap, subst, ◌∙◌, arith, rules}
-use Rattle.fx_item.specs.Item.{IsItem, items_of}
+use Rattle.std.proofs.Common.{◌≡◌, ◌∷◌, ℕ, ◌+◌, List, All, drop, sym, ap, subst, ◌∙◌, arith}
+use Rattle.fx_item.specs.Item.{items_of}
 use Rattle.fx_item.specs.declared.item.Item.{Item}
 use Rattle.fx_record.specs.Txns.{txns_of}
 use Rattle.fx_record.specs.Commits.{IsCommit}

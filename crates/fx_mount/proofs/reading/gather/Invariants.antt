@@ -1,9 +1,5 @@
-use Rattle.std.proofs.Common.{◌≡◌, ℕ, ◌-◌, ◌^◌, drop}
-use Rattle.std.specs.Prelude.{min}
-use Rattle.std.specs.List.{fold}
-use Rattle.fx_item.specs.Look.{after, next_id_after, next_store_after, value_in}
+use Rattle.std.proofs.Common.{drop}
 use Rattle.fx_record.specs.Txns.{txns_of}
-use Rattle.fx_image.specs.Standing.{items_after, lists_of}
 use Rattle.fx_mount.proofs.Gathering.{Gathers}
 use Rattle.fx_mount.proofs.reading.gather.Given as goal
 

@@ -1,4 +1,4 @@
-use Rattle.std.proofs.Common.{◌≡◌, ◌+◌, ℕ, List, length, sym, ap, subst, ◌∙◌, refl, arith}
+use Rattle.std.proofs.Common.{rules, ◌≡◌, ◌+◌, ℕ, List, length, sym, ap, subst, ◌∙◌, arith}
 use Rattle.std.specs.Prelude.{IfNone, IfSome, Option}
 use Rattle.std.proofs.lemmas.List.{length-map}
 use Rattle.fx_item.specs.Item.{PlainItem, items_of}
@@ -12,8 +12,8 @@ use Rattle.fx_record.specs.Txns.{IsTxns, all_bytes, txns_of}
 use Rattle.fx_record.proofs.Sessions.{txns_hold}
 use Rattle.fx_super.specs.Super.{fields_of}
 use Rattle.fx_log.specs.Chosen.{start_of}
-use Rattle.fx_image.specs.Standing.{HasSessionRoom, StandsFor, items_after, kept, stream_pieces}
-use Rattle.fx_mount.proofs.Contents.{knows_after, refused_room, refused_tree, series_short, stands_for}
+use Rattle.fx_image.specs.Standing.{StandsFor, items_after, kept, stream_pieces}
+use Rattle.fx_mount.proofs.Contents.{few_after, knows_after, refused_room, refused_tree, series_short, stands_for}
 use Rattle.fx_mount.proofs.reading.read_contents.Goals as goal
 use Rattle.fx_mount.proofs.reading.read_contents.Goals.{In-Ok, In_ok-made, After-as_slice}
 
@@ -44,16 +44,28 @@ returns-then-not-has_room-clause-refused c size image super stream =
     c.in_ok-made.made.0 (stands ((goal.at.returns-then-not-has_room-clause-refused c).In_ok-made) (are ((goal.at.returns-then-not-has_room-clause-refused c).In-Ok)))
     (λ room. cc (sym c.if-not-has_room.true ∙ (c.has_room.ensures (txns_of c.in-Ok.txns) (same_kept ((goal.at.returns-then-not-has_room-clause-refused c).After-as_slice)) c.in_ok-table.ensures).1 room))
 
-pub returns-clause-room : goal.returns-clause-room
-returns-clause-room c =
-    (c.has_room.ensures (txns_of c.in-Ok.txns) (same_kept ((goal.at.returns-clause-room c).After-as_slice)) c.in_ok-table.ensures).0
-    c.if-not-has_room.false
+pub tree_of-requires-clause-few : goal.tree_of-requires-clause-few
+tree_of-requires-clause-few c =
+    let f = fields_of c.args.sup.now in
+    few_after f c.args.stream.blocks (txns_of c.in-Ok.txns) c.in_ok-table.table (are ((goal.at.tree_of-requires-clause-few c).In-Ok)) c.in_ok-table.ensures f.generation (start_of f) c.args.stream.next c.requires.series
+    (omega (arith, c.requires.few, c.requires.rules.ring_most)) (subst (λ (found : Option LockKey). IfNone found (Stands (value_in c.in_ok-table.table.items))) c.in_default.is c.in_ok-node.ensures.stands)
 
-pub returns-clause-stands : goal.returns-clause-stands
-returns-clause-stands c = stands ((goal.at.returns-clause-stands c).In_ok-made) (are ((goal.at.returns-clause-stands c).In-Ok))
-
-pub returns-clause-nodes : goal.returns-clause-nodes
-returns-clause-nodes c = knows_after (fields_of c.args.sup.now) c.args.stream.blocks (txns_of c.in-Ok.txns) c.in_ok-table.table (are ((goal.at.returns-clause-nodes c).In-Ok)) c.in_ok-table.ensures c.in_ok-made.made.1 c.in_ok-made.ensures.nodes
+pub returns-clause-holds : goal.returns-clause-holds
+returns-clause-holds c =
+    let txns = are ((goal.at.returns-clause-holds c).In-Ok) in
+    let room = (c.has_room.ensures (txns_of c.in-Ok.txns) (same_kept ((goal.at.returns-clause-holds c).After-as_slice)) c.in_ok-table.ensures).0 c.if-not-has_room.false in
+    record {
+      closed = search rules;
+      next = search rules;
+      txns = txns;
+      base = same_kept ((goal.at.returns-clause-holds c).After-as_slice);
+      room = room;
+      stands = stands ((goal.at.returns-clause-holds c).In_ok-made) txns;
+      small = c.in_ok-made.ensures.small;
+      nodes = knows_after (fields_of c.args.sup.now) c.args.stream.blocks (txns_of c.in-Ok.txns) c.in_ok-table.table txns c.in_ok-table.ensures c.in_ok-made.made.1 c.in_ok-made.ensures.nodes;
+      next_id = search rules;
+      next_store = search rules;
+    }
 
 pub read_txns-requires : goal.read_txns-requires
 read_txns-requires c =

@@ -1,4 +1,4 @@
-use Rattle.std.proofs.Common.{◌≡◌, ◌∙◌, sym, subst}
+use Rattle.std.proofs.Common.{◌∙◌, sym, subst}
 use Rattle.std.specs.Prelude.{IfSome}
 use Rattle.fx_disk.specs.Seen.{DiskSeen}
 use Rattle.fx_jblock.specs.declared.Start.{Start}
@@ -11,11 +11,10 @@ pub returns-in-Ok-read_contents-clause-read : goal.returns-in-Ok-read_contents-c
 returns-in-Ok-read_contents-clause-read g c =
     let old : DiskSeen = g.D.Disk.seen c.args.disk.now in
     let f : Fields = fields_of c.args.sup.now in
-    let e = c.in-Ok-read_contents.ensures in
     read_told old f c.in-Ok.stream.blocks c.in-Ok.stream.next c.in-Ok-read_contents.contents c.requires.goes_on
     (subst (λ (s : Start). IfSome old.told (λ r. IsStream r.contents f.ring f.generation s c.in-Ok.stream.blocks c.in-Ok.stream.next)) c.start_of.ensures c.in-Ok.ensures.stream)
-    (subst (λ (s : Start). IsSeries f.generation s c.in-Ok.stream.blocks c.in-Ok.stream.next) c.start_of.ensures c.in-Ok.ensures.series)
-    c.in-Ok.ensures.few e.next e.txns e.base e.room e.stands e.nodes e.next_id e.next_store
+    (subst (λ (s : Start). IsSeries f.generation s c.in-Ok.stream.blocks c.in-Ok.stream.next) c.start_of.ensures c.in-Ok.ensures.read.series)
+    c.in-Ok.ensures.read.few c.in-Ok-read_contents.ensures.holds
 
 pub returns-in-Err-clause-cause : goal.returns-in-Err-clause-cause
 returns-in-Err-clause-cause g c =

@@ -1,4 +1,4 @@
-use Rattle.std.proofs.Common.{◌≡◌, ◌+◌, ap, arith}
+use Rattle.std.proofs.Common.{ap, arith}
 use Rattle.fx_jblock.specs.declared.Start.{Start}
 use Rattle.fx_super.specs.Super.{fields_of}
 use Rattle.fx_store.proofs.NewStores.{next_place}

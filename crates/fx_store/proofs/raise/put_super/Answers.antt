@@ -1,4 +1,4 @@
-use Rattle.std.proofs.Common.{◌≡◌, ℕ, ◌∙◌, ap, subst, Bool, true}
+use Rattle.std.proofs.Common.{ℕ, ◌∙◌, ap, subst, Bool, true}
 use Rattle.std.specs.Prelude.{IfSome, is_ok}
 use Rattle.fx_disk.specs.Seen.{DiskSeen, HasFlushed, HasWritten}
 use Rattle.fx_super.specs.Super.{Fields, IsSuper}

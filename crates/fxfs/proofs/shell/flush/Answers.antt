@@ -5,5 +5,4 @@ pub returns-clause-lasts : goal.returns-clause-lasts
 returns-clause-lasts g c =
     let old = c.args.store.now in
     let new = c.sync.new.self in
-    let done = c.in-Ok.ensures in
-    sync_lasts (g.D.Disk.seen old.disk) (g.D.Disk.seen new.disk) old new done.mount.0 done.flushed done.called done.settled done.whole
+    sync_lasts (g.D.Disk.seen old.disk) (g.D.Disk.seen new.disk) old new c.in-Ok.ensures.keeps c.in-Ok.ensures.did

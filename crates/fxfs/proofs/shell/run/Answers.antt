@@ -6,10 +6,10 @@ use Rattle.fx_item.specs.declared.full.Full.{Full}
 use Rattle.fx_script.specs.declared.script.Task.{Task}
 use Rattle.fx_history.specs.declared.outcome.EndKind.TheVariants as ends
 use Rattle.fx_history.specs.Outcome.{LineEnd}
-use Rattle.fx_history.specs.Transcript.{Session, EndsNext}
+use Rattle.fx_history.specs.Transcript.{EndsNext}
 use Rattle.fx_history.proofs.Sessions.{Follows, follows_more, follows_none, session_of}
 use Rattle.fx_store.specs.Mounted.{Opens}
-use Rattle.fxfs.specs.Shell.{AreFull, AreTold, syncs_in}
+use Rattle.fxfs.specs.Shell.{AreFull, AreLines, AreTold, syncs_in}
 use Rattle.fxfs.proofs.ListFronts.{take_more, drop_more, take_all}
 use Rattle.fxfs.proofs.FaultsTold.{AreWithin, full_none, full_more, within_none, within_more}
 use Rattle.fxfs.proofs.SyncsTold.{syncs_in_more, sync_of}
@@ -75,29 +75,34 @@ loop-line-preserved g c =
       room = omega (arith, invariant.room, c.push_reserved.ensures.capacity);
       told = λ opening opens. rw c.push_reserved.ensures.items (
           told_more (g.D.Disk.seen start.disk) (g.D.Disk.seen old.disk) (g.D.Disk.seen new.disk) old.waiting c.loop-line.items.items at kind
-          (g.met.D.Disk.told_ok old.disk) invariant.goes exec.disk (invariant.told opening opens)
+          (g.met.D.Disk.told_ok old.disk) invariant.goes exec.keeps.disk (invariant.told opening opens)
           (λ calls is. let s = (exec.syncs (sync_of opening start.base old.history new.history task at kind (next opening opens) calls is)).synced calls is in (s.0, s.1.calls, s.1.flushed))
           exec.faults);
-      most = rw (c.push_reserved.ensures.items, longer, front) (omega (arith, invariant.most, exec.each.most, syncs_in_more (take n tasks) task));
+      most = rw (c.push_reserved.ensures.items, longer, front) (omega (arith, invariant.most, exec.keeps.each.most, syncs_in_more (take n tasks) task));
       full = λ opening opens. rw c.push_reserved.ensures.items (
           full_more start.ring start.live old.live start.base opening old.history new.history task c.loop-line.items.items at kind (invariant.full opening opens) invariant.within invariant.low invariant.live (next opening opens)
           refusal (λ done. omega (arith, exec.takes.room done, mount.ring)));
       within = rw c.push_reserved.ensures.items (within_more start.ring old.live new.live c.loop-line.items.items at kind invariant.within exec.takes.least refusal);
       low = omega (arith, invariant.low, exec.takes.least);
       live = omega (arith, invariant.live, exec.takes.most);
-      mount = record { from = exec.mount.from ∙ mount.from; base = exec.mount.base ∙ mount.base; txns = exec.mount.txns ∙ mount.txns; ring = exec.mount.ring ∙ mount.ring };
-      goes = goes_then (g.D.Disk.seen start.disk) (g.D.Disk.seen old.disk) (g.D.Disk.seen new.disk) invariant.goes exec.disk;
+      mount = record { from = exec.keeps.mount.from ∙ mount.from; base = exec.keeps.mount.base ∙ mount.base; txns = exec.keeps.mount.txns ∙ mount.txns; ring = exec.keeps.mount.ring ∙ mount.ring };
+      goes = goes_then (g.D.Disk.seen start.disk) (g.D.Disk.seen old.disk) (g.D.Disk.seen new.disk) invariant.goes exec.keeps.disk;
     }
 
-pub returns-clause-session : goal.returns-clause-session
-returns-clause-session g c opening opens =
+pub returns-clause-lines : goal.returns-clause-lines
+returns-clause-lines g c opening opens =
     let base = c.args.store.now.base in
     let history = c.loop-line.store.history in
     let n : ℕ = length c.loop-line.items.items in
     let whole : take n c.args.tasks.now ≡ c.args.tasks.now = take_all n c.args.tasks.now (sym c.loop-line.invariant.left ∙ c.in-None.ensures.steps.0) in
     let all : Follows opening base history c.args.tasks.now c.loop-line.items.items =
     subst (λ (ks : List Task). Follows opening base history ks c.loop-line.items.items) whole (c.loop-line.invariant.follows opening opens) in
-    subst (λ (os : List LineEnd). Session opening base history c.args.tasks.now os) (sym c.new.ensures) (session_of opening base history c.args.tasks.now c.loop-line.items.items all)
+    subst (λ (os : List LineEnd). AreLines opening (g.D.Disk.seen c.args.store.now.disk) (g.D.Disk.seen c.loop-line.store.disk) c.args.store.now c.loop-line.store c.args.tasks.now os) (sym c.new.ensures)
+    (record {
+      session = session_of opening base history c.args.tasks.now c.loop-line.items.items all;
+      full = c.loop-line.invariant.full opening opens;
+      told = c.loop-line.invariant.told opening opens;
+    })
 
 pub returns-clause-one_each : goal.returns-clause-one_each
 returns-clause-one_each g c =
@@ -105,10 +110,6 @@ returns-clause-one_each g c =
     let none : drop n c.args.tasks.now ≡ [] = sym c.loop-line.invariant.left ∙ c.in-None.ensures.steps.0 in
     let same : n ≡ length c.args.tasks.now = omega (arith, c.loop-line.invariant.few, length-drop n c.args.tasks.now, ap length none) in
     ap length c.new.ensures ∙ same
-
-pub returns-clause-told : goal.returns-clause-told
-returns-clause-told g c opening opens =
-    subst (AreTold (g.D.Disk.seen c.args.store.now.disk) (g.D.Disk.seen c.loop-line.store.disk)) (sym c.new.ensures) (c.loop-line.invariant.told opening opens)
 
 pub returns-clause-most : goal.returns-clause-most
 returns-clause-most g c =

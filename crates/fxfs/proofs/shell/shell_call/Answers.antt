@@ -1,4 +1,4 @@
-use Rattle.std.proofs.Common.{◌≡◌, sym, subst, ◌∙◌, arith}
+use Rattle.std.proofs.Common.{sym, subst, ◌∙◌}
 use Rattle.std.specs.Prelude.{List, ℕ}
 use Rattle.std.specs.Option.{IfSome}
 use Rattle.fx_script.specs.declared.script.Task.{Task}
@@ -28,16 +28,16 @@ returns-in-Ok-mount-clause-ends g c =
         mounted.opens.1,
         subst (λ (n : ℕ). IfSome before.disk.told (IsMountedAt before.disk.size n store.txns mounted.opens.0)) base_is mounted.opens.2,
       );
-      ring_is = mounted.ring;
+      ring_is = mounted.new.ring;
       mount_from = mounted.new.from;
       mount_calls = mounted.new.calls;
       mount_unfailed = mounted.new.faults;
       mount_disk = mounted.goes;
-      run = finish.ran;
-      finishes = finish.finishes;
+      run = λ opening opens. (finish.ends opening opens).ran;
+      finishes = λ opening opens. (finish.ends opening opens).finishes;
       finish_disk = finish.disk;
-      images = subst (λ (n : ℕ). IfSome last.told (KeepsImages last.size store.from store.txns n end.history)) base_is finish.images;
-      settled = finish.settled;
+      images = subst (λ (n : ℕ). IfSome last.told (KeepsImages last.size store.from store.txns n end.history)) base_is finish.leaves.images;
+      settled = finish.leaves.by_now;
       most = c.read_tasks.ensures.most;
       source = c.read_tasks.ensures.goes;
       sink = finish.sink;
@@ -55,9 +55,7 @@ returns-clause-ends g c =
     let end : End = ended result.stop result.base result.history result.outcomes in
     let known : Refused before after un.fault end c.in-Ok.tasks = record {
       spelled = c.in-Ok.ensures.ok;
-      device = λ e. stopped.stop ∙ c.mount_stop.ensures.device e;
-      memory = λ e. stopped.stop ∙ c.mount_stop.ensures.memory e;
-      image = λ n m. stopped.stop ∙ c.mount_stop.ensures.image n m;
+      stop = stopped.stop ∙ c.mount_stop.ensures;
       stopped = stopped.stopped;
       cause = refused.cause;
       calls = refused.few;
