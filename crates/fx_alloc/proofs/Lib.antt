@@ -1,7 +1,16 @@
+pub mod Changes
+pub mod ChangeLoops
+pub mod Chaining
+pub mod FitPins
+pub mod SpaceSwitched
+pub mod PinLists
+pub mod PinTables
 pub mod Positions
 pub mod UseLists
 pub mod SpaceKept
 pub mod SpaceMoves
 pub mod SpaceOpened
 pub mod SpaceLaws
+pub mod RoomKept
+pub mod Lasting
 pub mod SpaceLaid

@@ -14,9 +14,11 @@ use Rattle.fx_alloc.specs.declared.chain.Chain.{Chain}
 use Rattle.fx_alloc.specs.Uses.{is_free, is_drawn_by, is_laid, put_all}
 use Rattle.fx_alloc.specs.Space.{holder_at, undrawn, drawn, held_nodes, held_attributes, left_aside, turned, sitting, CanReserve}
 use Rattle.fx_item.specs.declared.space.Need.{Need}
+use Rattle.fx_alloc.specs.Pins.{PinTable}
 use Rattle.fx_alloc.specs.Holders.{sits_on, held_seat, vacant_seat, needing}
 use Rattle.fx_alloc.proofs.Positions.{position-some, position-none}
-use Rattle.fx_alloc.specs.Inside.{AreUsed, IsDrawn, AreHolders, IsSpace}
+use Rattle.fx_alloc.specs.Inside.{IsDrawn, AreHolders, IsSpace}
+use Rattle.fx_alloc.specs.Uses.{AreUsed}
 use Rattle.fx_alloc.proofs.UseLists.{moved, within, AreUsed-less, AreUsed-first, one_of, none_of}
 
 -- ---- the test of a seat
@@ -157,6 +159,7 @@ IsSpace-needs {uses} {links} {ring} {given} {free} {live} {pinned} {holders} {he
       of_laid = s.of_laid;
       of_freed = s.of_freed;
       rising = s.rising;
+      few_laid = s.few_laid;
       fits = f;
     }
   where
@@ -180,11 +183,11 @@ seat_found holders who seat n e =
 
 -- what was asked for is reserved
 pub IsSpace-reserved : {uses : List Use} {links : List ℕ} {ring given free live pinned : ℕ} {holders : List Holder} {heads : List ℕ} {layers laid : Chain} {waiting : List Waiting} {aside : Option ℕ}
-    → (nodes attributes room seat : ℕ) (need : Need) → IsSpace uses links ring given free live pinned holders heads layers laid waiting aside
+    → (nodes attributes room seat : ℕ) (need : Need) (pins : PinTable) → IsSpace uses links ring given free live pinned holders heads layers laid waiting aside
     → seat < 32 → (holder_at holders seat).sits ≡ true
-    → CanReserve (record { ring = ring; nodes = nodes; attributes = attributes; given = given; uses = uses; holders = holders; waiting = waiting; room = room; aside = aside }) need
+    → CanReserve (record { ring = ring; nodes = nodes; attributes = attributes; given = given; uses = uses; holders = holders; waiting = waiting; room = room; aside = aside; pins = pins }) need
     → IsSpace uses links ring (given + need.nodes) free live pinned (set holders seat (needing (holder_at holders seat) need)) heads layers laid waiting aside
-IsSpace-reserved {uses} {links} {ring} {given} {free} {live} {pinned} {holders} {heads} {layers} {laid} {waiting} {aside} nodes attributes room seat need s l sits can =
+IsSpace-reserved {uses} {links} {ring} {given} {free} {live} {pinned} {holders} {heads} {layers} {laid} {waiting} {aside} nodes attributes room seat need pins s l sits can =
     IsSpace-needs (given + need.nodes) seat (needing (holder_at holders seat) need) s l refl
     (IsAlone-same holders heads seat (needing (holder_at holders seat) need) s.seats l refl refl) (λ e. absurd (true≢false (sym sits ∙ e)))
     (bound_nodes can) (bound_attributes can) (bound_given can) (bound_free can)
@@ -201,19 +204,19 @@ IsSpace-reserved {uses} {links} {ring} {given} {free} {live} {pinned} {holders} 
     sum_held : undrawn (set holders seat (needing (holder_at holders seat) need)) + (holder_at holders seat).held ≡ undrawn holders + ((holder_at holders seat).held + need.blocks)
     sum_held = sum_by-set (λ x. x.held) holders seat (needing (holder_at holders seat) need) VACANT below
 
-    bound_nodes : CanReserve (record { ring = ring; nodes = nodes; attributes = attributes; given = given; uses = uses; holders = holders; waiting = waiting; room = room; aside = aside }) need → held_nodes (set holders seat (needing (holder_at holders seat) need)) < 2 ^ 33
+    bound_nodes : CanReserve (record { ring = ring; nodes = nodes; attributes = attributes; given = given; uses = uses; holders = holders; waiting = waiting; room = room; aside = aside; pins = pins }) need → held_nodes (set holders seat (needing (holder_at holders seat) need)) < 2 ^ 33
     bound_nodes (inl z) = omega (arith, sum_nodes, s.seats.nodes, z.0)
     bound_nodes (inr r) = omega (arith, sum_nodes, s.small, r.0.0)
 
-    bound_attributes : CanReserve (record { ring = ring; nodes = nodes; attributes = attributes; given = given; uses = uses; holders = holders; waiting = waiting; room = room; aside = aside }) need → held_attributes (set holders seat (needing (holder_at holders seat) need)) < 2 ^ 34
+    bound_attributes : CanReserve (record { ring = ring; nodes = nodes; attributes = attributes; given = given; uses = uses; holders = holders; waiting = waiting; room = room; aside = aside; pins = pins }) need → held_attributes (set holders seat (needing (holder_at holders seat) need)) < 2 ^ 34
     bound_attributes (inl z) = omega (arith, sum_attributes, s.seats.attributes, z.1)
     bound_attributes (inr r) = omega (arith, sum_attributes, s.small, r.0.0)
 
-    bound_given : CanReserve (record { ring = ring; nodes = nodes; attributes = attributes; given = given; uses = uses; holders = holders; waiting = waiting; room = room; aside = aside }) need → given + need.nodes ≤ MAX_GIVEN
+    bound_given : CanReserve (record { ring = ring; nodes = nodes; attributes = attributes; given = given; uses = uses; holders = holders; waiting = waiting; room = room; aside = aside; pins = pins }) need → given + need.nodes ≤ MAX_GIVEN
     bound_given (inl z) = omega (arith, s.ids, z.0)
     bound_given (inr r) = r.0.1
 
-    bound_free : CanReserve (record { ring = ring; nodes = nodes; attributes = attributes; given = given; uses = uses; holders = holders; waiting = waiting; room = room; aside = aside }) need → undrawn (set holders seat (needing (holder_at holders seat) need)) + left_aside aside laid.len ≤ free
+    bound_free : CanReserve (record { ring = ring; nodes = nodes; attributes = attributes; given = given; uses = uses; holders = holders; waiting = waiting; room = room; aside = aside; pins = pins }) need → undrawn (set holders seat (needing (holder_at holders seat) need)) + left_aside aside laid.len ≤ free
     bound_free (inl z) = omega (arith, sum_held, s.fits, z.2)
     bound_free (inr r) =
         let f : undrawn holders + left_aside aside (count_by is_laid uses) + need.blocks ≤ count_by is_free uses = omega (arith, r.1) in

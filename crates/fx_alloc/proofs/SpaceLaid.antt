@@ -8,13 +8,18 @@ use Rattle.fx_alloc.specs.declared.uses.Waiting.{Waiting}
 use Rattle.fx_alloc.specs.declared.holders.Holder.{Holder}
 use Rattle.fx_alloc.specs.declared.chain.Chain.{Chain}
 use Rattle.fx_alloc.specs.Uses.{is_system, is_free, is_drawn_by, is_live, is_freed, is_layer, is_laid, is_pinned, put_all, blocks_from}
-use Rattle.fx_alloc.specs.Space.{holder_at, undrawn, left_aside, unlaid}
-use Rattle.fx_alloc.specs.Inside.{AreUsed, waiting_blocks, IsSpace}
+use Rattle.fx_alloc.specs.Space.{holder_at, undrawn, left_aside, aside_count, unlaid}
+use Rattle.fx_alloc.specs.Inside.{waiting_blocks, IsSpace}
+use Rattle.fx_alloc.specs.Uses.{AreUsed}
 use Rattle.fx_alloc.proofs.UseLists.{moved, within, AreUsed-kept, AreUsed-links, AreUsed-head, AreUsed-zero, AreUsed-others, AreUsed-first, AreUsed-less, length-put_all, count-put_all, length-blocks_from}
 
 one_less : (aside : Option ℕ) (n : ℕ) → 0 < left_aside aside n → left_aside aside (n + 1) ≡ left_aside aside n - 1
 one_less None n l = absurd (omega (arith, l))
 one_less (Some m) n l = omega arith
+
+one_more : (aside : Option ℕ) (n : ℕ) → 0 < left_aside aside n → n + 1 ≤ aside_count aside
+one_more None n l = absurd (omega (arith, l))
+one_more (Some m) n l = omega (arith, l)
 
 pub IsSpace-laid : {uses : List Use} {links : List ℕ} {ring given free live pinned : ℕ} {holders : List Holder} {heads : List ℕ} {layers laid : Chain} {waiting : List Waiting} {aside : Option ℕ}
     → (b : ℕ) → IsSpace uses links ring given free live pinned holders heads layers laid waiting aside
@@ -43,6 +48,7 @@ IsSpace-laid {uses} {links} {ring} {given} {free} {live} {pinned} {holders} {hea
   of_laid = AreUsed-head Laid uses links b laid.head laid.len on_disk (omega (arith, s.linked, on_disk)) (λ x. cc) s.of_laid;
   of_freed = AreUsed-kept Freed Laid uses b (waiting_blocks waiting) (λ x. cc) s.of_freed;
   rising = s.rising;
+  few_laid = one_more aside laid.len left;
   fits = omega (arith, s.fits, s.counts.of_free, moved is_free uses b Free Laid on_disk e, one_less aside laid.len left, left);
 }
   where
@@ -109,6 +115,7 @@ put_unlaid {uses} {links} {ring} {given} {free} {live} {pinned} {holders} {heads
   of_laid = AreUsed-zero Laid (put_all Free (blocks_from links laid.head laid.len) uses) links 0;
   of_freed = AreUsed-others Freed Laid Free uses (blocks_from links laid.head laid.len) (waiting_blocks waiting) (λ x. cc) s.of_laid s.of_freed;
   rising = s.rising;
+  few_laid = omega arith;
   fits = omega (arith, fits);
 }
   where

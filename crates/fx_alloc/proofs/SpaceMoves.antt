@@ -1,5 +1,5 @@
 -- The parts of an allocator fit one another after blocks were drawn, taken over, freed and settled.
-use Rattle.std.proofs.Common.{◌≡◌, ℕ, ◌+◌, ◌-◌, ◌<◌, ◌≤◌, zero, suc, Bool, true, false, cond, nat_le, List, [], ◌∷◌, ◌++◌, length, get_or, set, map, count_by, All, Option, refl, sym, ◌∙◌, ap, subst, arith, length-set, length-append, inl, inr}
+use Rattle.std.proofs.Common.{◌≡◌, ℕ, ◌+◌, ◌-◌, ◌<◌, ◌≤◌, zero, suc, Bool, true, false, cond, nat_le, List, [], ◌∷◌, ◌++◌, length, get_or, set, map, count_by, All, Option, refl, sym, ◌∙◌, ap, subst, arith, length-set, length-append, inl, inr, leb-false}
 use Rattle.std.proofs.lemmas.List.{get_or_default, get_or-set_same, get_or-set_other, map-append}
 use Rattle.std.proofs.lemmas.List.Sums.{sum_by-set}
 use Rattle.std.proofs.lemmas.List.Elements.{All-append}
@@ -14,7 +14,8 @@ use Rattle.fx_alloc.specs.Uses.{is_system, is_free, is_drawn_by, is_live, is_fre
 use Rattle.fx_alloc.specs.Holders.{having_drawn}
 use Rattle.fx_alloc.specs.Space.{holder_at, undrawn, drawn, turned, settled_blocks, left_waiting, IsLatest}
 use Rattle.fx_alloc.specs.Space.{AreRising}
-use Rattle.fx_alloc.specs.Inside.{AreUsed, waiting_blocks, IsDrawn, IsSpace}
+use Rattle.fx_alloc.specs.Inside.{waiting_blocks, IsDrawn, IsSpace}
+use Rattle.fx_alloc.specs.Uses.{AreUsed}
 use Rattle.fx_alloc.proofs.UseLists.{moved, within, AreUsed-kept, AreUsed-zero, AreUsed-links, AreUsed-head, one_of, none_of, length-put_all, count-put_all, AreUsed-others, AreUsed-left, AreUsed-front, AreUsed-back, length-blocks_from}
 use Rattle.fx_alloc.proofs.SpaceKept.{same_seat, other_seat, put_all-turned, at_seat, at_others, AreHolders-set, IsAlone-same, IsAlone-vacant}
 
@@ -45,6 +46,7 @@ IsSpace-drawn {uses} {links} {ring} {given} {free} {live} {pinned} {holders} {he
   of_laid = AreUsed-kept Laid (Drawn seat) uses b (blocks_from (set links b (get_or heads seat 0)) laid.head laid.len) (λ x. cc) (AreUsed-links Laid uses links b (get_or heads seat 0) laid.head laid.len (λ x. cc) s.of_laid);
   of_freed = AreUsed-kept Freed (Drawn seat) uses b (waiting_blocks waiting) (λ x. cc) s.of_freed;
   rising = s.rising;
+  few_laid = s.few_laid;
   fits = omega (arith, s.fits, s.counts.of_free, moved is_free uses b Free (Drawn seat) on_disk e, sum_held, held);
 }
   where
@@ -114,6 +116,7 @@ ended_as {uses} {links} {ring} {given} {free} {live} {pinned} {holders} {heads} 
   of_laid = AreUsed-others Laid (Drawn seat) to uses (blocks_from links (get_or heads seat 0) (holder_at holders seat).drawn) (blocks_from links laid.head laid.len) (λ x. cc) (s.of_seats seat).chain s.of_laid;
   of_freed = AreUsed-others Freed (Drawn seat) to uses (blocks_from links (get_or heads seat 0) (holder_at holders seat).drawn) (waiting_blocks waiting) (λ x. cc) (s.of_seats seat).chain s.of_freed;
   rising = s.rising;
+  few_laid = s.few_laid;
   fits = omega (arith, s.fits, more, sum_by-set (λ x. x.held) holders seat VACANT VACANT below);
 }
   where
@@ -211,6 +214,7 @@ IsSpace-freed {uses} {links} {ring} {given} {free} {live} {pinned} {holders} {he
   of_laid = AreUsed-kept Laid Freed uses b (blocks_from links laid.head laid.len) (λ x. cc) s.of_laid;
   of_freed = subst (λ (bs : List ℕ). AreUsed Freed (set uses b Freed) bs) blocks (AreUsed-back Freed uses b (waiting_blocks waiting) on_disk (λ x. cc) s.of_freed);
   rising = AreRising-more waiting w s.rising latest;
+  few_laid = s.few_laid;
   fits = s.fits;
 }
   where
@@ -276,6 +280,7 @@ IsSpace-settled {uses} {links} {ring} {given} {free} {live} {pinned} {holders} {
   of_laid = AreUsed-others Laid Freed Free uses (settled_blocks n waiting) (blocks_from links laid.head laid.len) (λ x. cc) front s.of_laid;
   of_freed = AreUsed-left Freed Free uses (settled_blocks n waiting) (waiting_blocks (left_waiting n waiting)) whole;
   rising = AreRising-left n waiting s.rising;
+  few_laid = s.few_laid;
   fits = omega (arith, s.fits);
 }
   where
@@ -300,3 +305,13 @@ IsLatest-last n ws last h e m k d l =
     let same : (get_or ws k d).number ≡ (get_or ws k last).number = ap (λ (w : Waiting). w.number) (get_or_default ws k d last l) in
     let end : last.number ≡ (get_or ws (length ws - 1) last).number = ap (λ (w : Waiting). w.number) e in
     omega (arith, le, same, end, m)
+
+pub settled_used : {uses : List Use} (n : ℕ) (waiting : List Waiting) → AreUsed Freed uses (waiting_blocks waiting) → AreUsed Freed uses (settled_blocks n waiting)
+settled_used {uses} n waiting a = AreUsed-front Freed uses (settled_blocks n waiting) (waiting_blocks (left_waiting n waiting)) (subst (λ (bs : List ℕ). AreUsed Freed uses bs) (blocks-split n waiting) a)
+
+pub at_most : (n m : ℕ) → n ≤ m → nat_le n m ≡ true
+at_most n m l = told (nat_le n m) refl
+  where
+    told : (b : Bool) → nat_le n m ≡ b → b ≡ true
+    told true e = refl
+    told false e = absurd (omega (arith, l, leb-false n m e))

@@ -12,7 +12,8 @@ use Rattle.fx_alloc.specs.declared.chain.Chain.{Chain}
 use Rattle.fx_alloc.specs.Uses.{is_system, is_free, is_drawn_by, is_live, is_freed, is_layer, is_laid, is_pinned, put_all, blocks_from, blank, StandOnce}
 use Rattle.fx_alloc.specs.Space.{holder_at}
 use Rattle.fx_alloc.specs.Space.{AreRising}
-use Rattle.fx_alloc.specs.Inside.{AreUsed, IsDrawn, IsSpace}
+use Rattle.fx_alloc.specs.Inside.{IsDrawn, IsSpace}
+use Rattle.fx_alloc.specs.Uses.{AreUsed}
 use Rattle.fx_alloc.proofs.UseLists.{length-put_all, count-put_all, AreUsed-left, AreUsed-front, AreUsed-none, AreUsed-zero, AreUsed-blank, blank-count, length-blank}
 
 all_vacant : (i : ℕ) → holder_at (replicate 32 VACANT) i ≡ VACANT
@@ -100,6 +101,7 @@ module _ (blocks ring : ℕ) (live layers : List ℕ) (fit : ring + 2 ≤ blocks
     of_laid = AreUsed-zero Laid (put_all Layer layers (put_all Live live (blank blocks ring))) links 0;
     of_freed = AreUsed-none Freed (put_all Layer layers (put_all Live live (blank blocks ring)));
     rising = tt;
+    few_laid = omega arith;
     fits = omega (arith, sum_by-replicate (λ (h : Holder). h.held) 32 VACANT);
   }
     where

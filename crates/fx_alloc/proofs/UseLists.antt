@@ -10,7 +10,7 @@ use native.Mathlib.Numerals.{unary_clauses}
 use Rattle.fx_alloc.specs.declared.uses.Use.{Use}
 use Rattle.fx_alloc.specs.declared.uses.Use.TheVariants.{System, Free}
 use Rattle.fx_alloc.specs.Uses.{put_all, blocks_from, HaveUse, IsApartFrom, StandOnce, blank}
-use Rattle.fx_alloc.specs.Inside.{AreUsed}
+use Rattle.fx_alloc.specs.Uses.{AreUsed}
 
 -- ---- along the links
 

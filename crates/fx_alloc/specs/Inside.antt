@@ -7,8 +7,10 @@ use Rattle.fx_alloc.specs.declared.uses.Waiting.{Waiting}
 use Rattle.fx_alloc.specs.declared.holders.Holder.{Holder}
 use Rattle.fx_alloc.specs.declared.holders.TheConstants.{VACANT}
 use Rattle.fx_alloc.specs.declared.chain.Chain.{Chain}
-use Rattle.fx_alloc.specs.Uses.{is_system, is_free, is_drawn_by, is_live, is_freed, is_layer, is_laid, is_pinned, blocks_from, HaveUse, StandOnce}
-use Rattle.fx_alloc.specs.Space.{Space, free_count, live_of, laid_of, holder_at, undrawn, held_nodes, held_attributes, left_aside, drawn, settled_blocks, left_waiting, AreRising}
+use Rattle.fx_alloc.specs.Uses.{is_system, is_free, is_drawn_by, is_live, is_freed, is_layer, is_laid, is_pinned, blocks_from, AreUsed}
+use Rattle.fx_alloc.specs.Layers.{FitPins}
+use Rattle.fx_alloc.specs.PinCounts.{IsSoundTable}
+use Rattle.fx_alloc.specs.Space.{Space, free_count, live_of, laid_of, holder_at, undrawn, held_nodes, held_attributes, left_aside, aside_count, drawn, settled_blocks, left_waiting, AreRising}
 
 -- the kept counts are the sizes of the sets, and each block is counted once
 pub record AreCounts (uses : List Use) (ring free live pinned : ℕ)
@@ -22,11 +24,6 @@ pub record AreCounts (uses : List Use) (ring free live pinned : ℕ)
   pub of_pinned : count_by is_pinned uses ≡ pinned
   pub of_all :
       ring + 2 + free + live + length waiting + layers + laid + pinned + drawn holders ≡ length uses
-
--- these blocks have this use, each once
-pub record AreUsed (u : Use) (uses : List Use) (blocks : List ℕ) : Type 0 where
-  pub used : HaveUse u uses blocks
-  pub apart : StandOnce blocks
 
 abbrev pub waiting_blocks : List Waiting → List ℕ
 waiting_blocks waiting = map (λ w. w.block) waiting
@@ -64,6 +61,8 @@ pub record IsSpace (uses : List Use) (links : List ℕ) (ring given free live pi
   pub of_laid : AreUsed Laid uses (blocks_from links laid.head laid.len)
   pub of_freed : AreUsed Freed uses (waiting_blocks waiting)
   pub rising : AreRising waiting
+  -- no more blocks are laid than were set aside
+  pub few_laid : laid.len ≤ aside_count aside
   -- what is still to be drawn and laid is free
   pub fits : undrawn holders + left_aside aside laid.len ≤ free
 
@@ -77,6 +76,8 @@ pub record TakesSettled (number : ℕ) (old new : List Waiting) (block : ℕ) : 
 pub record IsSoundSpace (s : Space) : Type 0 where
   -- what numbers may still draw, and what is set aside and not yet laid, is free
   pub held : undrawn s.holders + left_aside s.aside (laid_of s) ≤ free_count s
+  -- no more blocks are laid than were set aside
+  pub laid : laid_of s ≤ aside_count s.aside
   -- each block is counted once
   pub whole :
       s.ring + 2 + free_count s + live_of s + count_by is_freed s.uses + count_by is_layer s.uses
@@ -88,3 +89,6 @@ pub record IsSoundSpace (s : Space) : Type 0 where
   pub waits : AreUsed Freed s.uses (waiting_blocks s.waiting)
   pub all_wait : count_by is_freed s.uses ≡ length s.waiting
   pub rising : AreRising s.waiting
+  -- pins keep layer blocks and pinned ones, and each pinned block; a layer set has pins
+  pub pins : FitPins s.uses s.pins
+  pub sets : IsSoundTable s.pins

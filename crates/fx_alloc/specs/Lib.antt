@@ -1,5 +1,9 @@
 pub mod Uses
 pub mod Holders
+pub mod Pins
+pub mod PinCounts
+pub mod Layers
 pub mod Space
 pub mod Inside
+pub mod SpaceFacts
 pub mod SpaceLaws

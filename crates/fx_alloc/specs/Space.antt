@@ -1,5 +1,5 @@
 -- What an allocator holds, its formulas, and what its calls make of it.
-use Rattle.std.specs.Prelude.{ℕ, ◌+◌, ◌-◌, ◌*◌, ◌<◌, ◌≤◌, ◌⊎◌, true, nat_le, if◌then◌else◌, List, [], ◌∷◌, ◌++◌, length, map, replicate, slice_set, slice_index_or, sum_by, count_by, All, Option, None, Some, IsSome, IsSomeAnd}
+use Rattle.std.specs.Prelude.{◌≡◌, ◌≢◌, ℕ, ◌+◌, ◌-◌, ◌*◌, ◌<◌, ◌≤◌, ◌⊎◌, true, nat_le, if◌then◌else◌, List, [], ◌∷◌, ◌++◌, length, map, replicate, slice_set, slice_index_or, sum_by, count_by, All, Option, None, Some, IsSome, IsSomeAnd, IfSome}
 use Rattle.fx_item.specs.declared.Sizes.{Sizes}
 use Rattle.fx_item.specs.declared.space.Need.{Need}
 use Rattle.fx_item.specs.declared.space.Beyond.{Beyond}
@@ -10,7 +10,9 @@ use Rattle.fx_alloc.specs.declared.uses.Use.TheVariants.{Free, Drawn, Live, Free
 use Rattle.fx_alloc.specs.declared.uses.Waiting.{Waiting}
 use Rattle.fx_alloc.specs.declared.holders.Holder.{Holder}
 use Rattle.fx_alloc.specs.declared.holders.TheConstants.{VACANT}
-use Rattle.fx_alloc.specs.Uses.{is_free, is_drawn_by, is_live, is_freed, is_laid, is_pinned, put_all, blank}
+use Rattle.fx_alloc.specs.Uses.{is_free, is_drawn_by, is_live, is_freed, is_layer, is_laid, is_pinned, use_at, put_all, blank}
+use Rattle.fx_alloc.specs.Pins.{PinTable, no_pins, is_among, is_kept, pin_at, set_has, ChangesPin, unpinned}
+use Rattle.fx_alloc.specs.Layers.{switched_use, unpinned_use}
 use Rattle.fx_alloc.specs.Holders.{held_seat, vacant_seat, needing, having_drawn}
 
 pub record Space : Type 0 where
@@ -31,6 +33,7 @@ pub record Space : Type 0 where
   pub room : ℕ
   -- blocks set aside for the open checkpoint, laid ones included
   pub aside : Option ℕ
+  pub pins : PinTable
 
 -- ---- the sizes of the sets
 
@@ -67,6 +70,11 @@ abbrev pub left_aside : Option ℕ → ℕ → ℕ
 left_aside None laid = 0
 left_aside (Some n) laid = n - laid
 
+-- blocks set aside, laid ones included
+abbrev pub aside_count : Option ℕ → ℕ
+aside_count None = 0
+aside_count (Some n) = n
+
 -- ---- the counts with all needs, an asked one among them
 
 abbrev pub nodes_with : Space → Need → ℕ
@@ -101,7 +109,8 @@ abbrev pub bounds_kept : Option ℕ → ℕ
 bounds_kept None = 2
 bounds_kept (Some n) = 1
 
--- the second: blocks are free for what is held and set aside, for the need, and for the layers to come
+-- the second: blocks are free for what is held and set aside, for the need, and for the layers to
+-- come
 abbrev pub IsFree : Space → Need → Type 0
 IsFree s need =
     undrawn s.holders + left_aside s.aside (laid_of s) + need.blocks
@@ -141,6 +150,7 @@ opened blocks ring live layers sizes = record {
   waiting = [];
   room = 0;
   aside = None;
+  pins = no_pins;
 }
 
 abbrev pub HasSeat : Space → ℕ → Type 0
@@ -234,3 +244,37 @@ settling s number = record s {
   uses = put_all Free (settled_blocks number s.waiting) s.uses;
   waiting = left_waiting number s.waiting;
 }
+
+-- ---- layers and pins
+
+-- The blocks laid are the layers' now, those named stay, and the others are free, or kept for pins.
+pub record IsSwitched (old new : Space) (stay : List ℕ) : Type 0 where
+  pub uses : (b : ℕ) → use_at new.uses b ≡
+      switched_use (is_among b stay) (is_kept old.pins.kept b) (use_at old.uses b)
+  pub disk : length new.uses ≡ length old.uses
+  -- none is set aside, and the new layers have no pins
+  pub others : new ≡ record old {
+    uses = new.uses;
+    aside = None;
+    pins = record old.pins { present = None };
+  }
+
+-- A number that no pin had is a pin of the present layer blocks.
+pub record IsPinned (old new : Space) (pin : ℕ) : Type 0 where
+  pub vacant : pin_at old.pins.pins pin ≡ None
+  pub set : ℕ
+  pub pins : ChangesPin old.pins.pins new.pins.pins pin (Some set)
+  pub layers : (b : ℕ) → set_has new.pins.kept set b ≡ is_layer (use_at old.uses b)
+  pub sets : (other b : ℕ) → other ≢ set →
+      set_has new.pins.kept other b ≡ set_has old.pins.kept other b
+
+abbrev pub HasPin : Space → ℕ → Type 0
+HasPin s pin = IsSome (pin_at s.pins.pins pin)
+
+-- The pin has ended, and blocks that were kept for pins and that none of those left keeps are free.
+pub record IsUnpinned (old new : Space) (pin : ℕ) : Type 0 where
+  pub pins : IfSome (pin_at old.pins.pins pin) (λ set. new.pins ≡ unpinned old.pins pin set)
+  pub uses : (b : ℕ) → use_at new.uses b ≡
+      unpinned_use (is_kept new.pins.kept b) (use_at old.uses b)
+  pub disk : length new.uses ≡ length old.uses
+  pub others : new ≡ record old { uses = new.uses; pins = new.pins }

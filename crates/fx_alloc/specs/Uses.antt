@@ -63,6 +63,11 @@ abbrev pub StandOnce : List ℕ → Type 0
 StandOnce [] = Unit {0}
 StandOnce (b ∷ bs) = IsApartFrom b bs × StandOnce bs
 
+-- these blocks have this use, each once
+pub record AreUsed (u : Use) (uses : List Use) (blocks : List ℕ) : Type 0 where
+  pub used : HaveUse u uses blocks
+  pub apart : StandOnce blocks
+
 -- a disk where all past the superblocks and the ring is free
 abbrev pub blank : ℕ → ℕ → List Use
 blank blocks ring = replicate (ring + 2) System ++ replicate (blocks - (ring + 2)) Free

@@ -2,7 +2,8 @@
 ghost use Rattle.std.specs.Prelude.{◌≡◌, ◌^◌, ◌<◌, All, false, length, map};
 ghost use Rattle.fx_alloc.specs.Uses.{put_all, blocks_from, is_drawn_by};
 ghost use Rattle.fx_alloc.specs.Space.{turned};
-ghost use Rattle.fx_alloc.specs.Inside.{AreUsed, IsDrawn};
+ghost use Rattle.fx_alloc.specs.Inside.{IsDrawn};
+ghost use Rattle.fx_alloc.specs.Uses.{AreUsed};
 
 use crate::hints::note;
 use crate::uses::Use;

@@ -1,5 +1,5 @@
-//! Where free blocks may be: a bit for each block, 64 a word. The table of uses decides what is free; the bits say only
-//! where a draw looks first, and no clause speaks of them.
+//! Where free blocks may be: a bit for each block, 64 a word. The table of uses decides what is
+//! free; the bits say only where a draw looks first, and no clause speaks of them.
 
 use crate::uses::Use;
 use std::alloc::{AllocError, Global};

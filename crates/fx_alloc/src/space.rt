@@ -2,7 +2,7 @@
 ghost use Rattle.std.specs.Prelude.{◌≡◌, ℕ, ◌+◌, ◌*◌, ◌^◌, ◌<◌, ◌≤◌, ◌↔◌, ◌++◌, ◌∷◌, [], All, length, IfOk, IfErr, IfSome, IsOk, IsTrue, IsNone, OnOk, OnErr, MatchBool, MatchOption, slice_set};
 ghost use Rattle.fx_alloc.specs.Uses.{use_at, put_all, StandOnce};
 ghost use Rattle.fx_alloc.specs.Holders.{held_seat, vacant_seat};
-ghost use Rattle.fx_alloc.specs.Space.{PassesCounts, IsOver, IsFree, CanReserve, HasSeat, CanSit, beyond_of, nodes_with, attributes_with, blocks_with, bound_with, free_count, laid_of, left_aside, HoldsBlock, opened, freeing, settling, seat_given, reserved, drawing, holder_ended, holder_at, settled_blocks, left_waiting, IsLatest, HasAside, laying, CanSetAside, setting_aside, no_need};
+ghost use Rattle.fx_alloc.specs.Space.{PassesCounts, IsOver, IsFree, CanReserve, HasSeat, CanSit, beyond_of, nodes_with, attributes_with, blocks_with, bound_with, free_count, laid_of, left_aside, HoldsBlock, opened, freeing, settling, seat_given, reserved, drawing, holder_ended, holder_at, settled_blocks, left_waiting, IsLatest, HasAside, laying, CanSetAside, setting_aside, no_need, IsSwitched, IsPinned, IsUnpinned, HasPin};
 ghost use Rattle.fx_alloc.specs.Inside.{IsSoundSpace};
 
 use crate::chain::{Chain, chain_up, release, turn};
@@ -11,6 +11,8 @@ use crate::holders::{
     Holder, SEATS, VACANT, all_attributes, all_drawn, all_held, all_nodes, find_seat, find_vacant,
     with_drawn, with_need,
 };
+use crate::layers::{end_pin, pin_free, take_all_back};
+use crate::pins::Pins;
 use crate::uses::{Use, Waiting, new_uses, next_free};
 use crate::waiting::settle;
 use fx_item::{Beyond, MAX_GIVEN, Need, Sizes, layer_bound};
@@ -21,7 +23,8 @@ use std::marker::Model;
 /// Why there is no room for a need.
 #[derive(Clone, Copy, Debug, PartialEq, Eq)]
 pub struct Short {
-    /// Whether the counts alone leave no room: their bound or the ids fail. Else blocks are not free yet.
+    /// Whether the counts alone leave no room: their bound or the ids fail. Else blocks are not
+    /// free yet.
     pub counted: bool,
     pub beyond: Beyond,
 }
@@ -48,6 +51,7 @@ pub struct Space {
     laid: Chain,
     waiting: VecDeque<Waiting>,
     aside: Option<u32>,
+    pins: Pins,
     // where the next draw looks first
     last: u32,
 }
@@ -59,7 +63,9 @@ impl Model for Space {
 
     ghost Value = { Space };
 
+    ghost use Rattle.std.specs.Prelude.{◌≡◌};
     ghost use Rattle.fx_alloc.specs.Inside.{IsSpace};
+    ghost use Rattle.fx_alloc.specs.Layers.{FitPins};
 
     ghost view = { λ a. record {
       ring = a.ring;
@@ -71,17 +77,20 @@ impl Model for Space {
       waiting = a.waiting.items;
       room = deque_capacity a.waiting - deque_len a.waiting;
       aside = a.aside;
+      pins = a.pins;
     } };
 
     ghost invariant = { λ a. IsSpace a.uses.items a.links.items a.ring a.given a.free a.live
-        a.pinned a.holders.items a.heads.items a.layers a.laid a.waiting.items a.aside };
+        a.pinned a.holders.items a.heads.items a.layers a.laid a.waiting.items a.aside
+        × FitPins a.uses.items a.pins };
 }
 
 impl Space {
-    /// The allocator of a disk of so many blocks with a ring of so many: these blocks are live and those are layers',
-    /// and all others past the ring are free. `sizes` are those of the tree and the graveyard; of these the nodes and
-    /// attributes are kept, and the blocks are counted. Nothing is held. Costs a few passes over the disk, and some
-    /// seven bytes of memory for each block.
+    /// The allocator of a disk of so many blocks with a ring of so many: these blocks are live and
+    /// those are layers', and all others past the ring are free. `sizes` are those of the tree and
+    /// the graveyard; of these the nodes and attributes are kept, and the blocks are counted.
+    /// Nothing is held. Costs a few passes over the disk, and some seven bytes of memory for each
+    /// block.
     pub fn new(
         alloc: Global,
         blocks: u32,
@@ -100,6 +109,7 @@ impl Space {
         let mut links = vec![in alloc; 0; blocks as usize]?;
         let layers = chain_up(uses.as_mut_slice(), links.as_mut_slice(), layers);
         let hints = new_hints(alloc, uses.as_slice())?;
+        let pins = Pins::new(alloc);
         Ok(Space {
             ring,
             nodes: sizes.nodes,
@@ -117,6 +127,7 @@ impl Space {
             laid: Chain { head: 0, len: 0 },
             waiting: VecDeque::new(alloc),
             aside: None,
+            pins,
             last: 0,
         })
     }
@@ -204,7 +215,7 @@ impl Space {
 
     /// Whether the number has a seat, or there is one for it. Costs the seats.
     pub fn can_sit(&self, who: u32) -> bool
-        ensures { IsTrue result → CanSit self.now who }
+        ensures { IsTrue result ↔ CanSit self.now who }
     {
         let holders = self.holders.as_slice();
         find_seat(holders, who).is_some() || find_vacant(holders).is_some()
@@ -212,7 +223,7 @@ impl Space {
 
     /// Whether the number may still draw a block. Costs the seats.
     pub fn may_draw(&self, who: u32) -> bool
-        ensures { IsTrue result → HoldsBlock self.now who }
+        ensures { IsTrue result ↔ HoldsBlock self.now who }
     {
         match find_seat(self.holders.as_slice(), who) {
             Some(seat) => self.holders[seat].held > 0,
@@ -222,7 +233,7 @@ impl Space {
 
     /// Whether no block waits for a greater number.
     pub fn is_latest(&self, number: u64) -> bool
-        ensures { IsTrue result → IsLatest number self.now.waiting }
+        ensures { IsTrue result ↔ IsLatest number self.now.waiting }
     {
         match self.waiting.back() {
             Some(last) => last.number <= number,
@@ -237,12 +248,13 @@ impl Space {
         self.free
     }
 
-    /// What is so of every allocator: what is held is free, each block has one use and is counted once, and what
-    /// waits is what was freed, in the order of the numbers. For those who prove: the function does nothing.
+    /// What is so of every allocator: what is held is free, each block has one use and is counted
+    /// once, and what waits is what was freed, in the order of the numbers. For those who prove:
+    /// the function does nothing.
     pub fn sound(&self)
         ensures { IsSoundSpace self.now }
     {
-        let _ring = self.ring;
+        self.pins.sound();
     }
 
     /// What the counts hold beyond the committed tree.
@@ -259,8 +271,8 @@ impl Space {
         }
     }
 
-    /// Gives the number a seat, unless it has one. At most [`SEATS`] numbers have seats at once. A seat ends with
-    /// [`Space::undo`] and [`Space::take_over`]. Takes no memory.
+    /// Gives the number a seat, unless it has one. At most [`SEATS`] numbers have seats at once. A
+    /// seat ends with [`Space::undo`] and [`Space::take_over`]. Takes no memory.
     pub fn slot(&mut self, who: u32)
         requires { CanSit self.old who }
         ensures seat_given { MatchOption (held_seat self.old.holders who)
@@ -301,8 +313,9 @@ impl Space {
         None
     }
 
-    /// Adds a need to what the number holds, and gives out as many ids as it has nodes. `Short` exactly where the
-    /// need is not nothing and one of the three tests of room fails. Takes no memory.
+    /// Adds a need to what the number holds, and gives out as many ids as it has nodes. `Short`
+    /// exactly where the need is not nothing and one of the three tests of room fails. Takes no
+    /// memory.
     pub fn reserve(&mut self, who: u32, need: Need) -> Result<(), Short>
         requires { HasSeat self.old who }
         ensures ok { IsOk result ↔ CanReserve self.old need }
@@ -353,7 +366,8 @@ impl Space {
         block
     }
 
-    // The bound on the layer blocks, if as many blocks are free, those that are laid counted as free.
+    // The bound on the layer blocks, if as many blocks are free, those that are laid counted as
+    // free.
     fn bound_to_set_aside(&self) -> Option<u64>
         ensures some { IfSome result (λ bound. (bound ≡ bound_with self.now no_need)
             × CanSetAside self.now) }
@@ -367,8 +381,9 @@ impl Space {
         None
     }
 
-    /// Sets as many free blocks aside as the layers may take; a checkpoint that is open begins anew, and what it had
-    /// laid is free. `Short` exactly where fewer are free. Takes no memory. Costs the blocks that were laid.
+    /// Sets as many free blocks aside as the layers may take; a checkpoint that is open begins
+    /// anew, and what it had laid is free. `Short` exactly where fewer are free. Takes no memory.
+    /// Costs the blocks that were laid.
     pub fn aside(&mut self) -> Result<(), Short>
         ensures ok { IsOk result ↔ CanSetAside self.old }
         ensures aside { OnOk result (self.new ≡ setting_aside self.old) }
@@ -403,8 +418,8 @@ impl Space {
         self.left_aside() > 0
     }
 
-    /// Lays one of the blocks set aside for the layers of the open checkpoint: the first free one from the last draw
-    /// on. Takes no memory.
+    /// Lays one of the blocks set aside for the layers of the open checkpoint: the first free one
+    /// from the last draw on. Takes no memory.
     pub fn layer_block(&mut self) -> u32
         requires { HasAside self.old }
         ensures free { use_at self.old.uses result ≡ Use.Free }
@@ -429,8 +444,66 @@ impl Space {
         block
     }
 
-    /// Ends what the number holds, and its seat: what it drew is free. Takes no memory. Costs the blocks that it
-    /// drew.
+    /// The blocks laid are the layers' from now on, and those of the layers in `stay` stay theirs.
+    /// The other layer blocks are free, but for those that pins keep; and what was set aside and
+    /// not laid is free for others. Takes no memory. Costs the layer blocks, and the blocks that
+    /// pins keep.
+    pub fn switched(&mut self, stay: &[u32])
+        requires { All (λ b. use_at self.old.uses b ≡ Use.Layer) stay.now }
+        ensures { IsSwitched self.old self.new stay.now }
+    {
+        let (old, laid) = (self.layers, self.laid);
+        let uses = self.uses.as_mut_slice();
+        let hints = self.hints.as_mut_slice();
+        let links = self.links.as_mut_slice();
+        turn(uses, hints, links, old, Use::Free);
+        turn(uses, hints, links, laid, Use::Layer);
+        let layers = take_all_back(uses, hints, links, laid, stay);
+        let pinned = pin_free(uses, hints, self.pins.kept());
+        self.free = self.free + old.len + laid.len - layers.len - pinned;
+        self.pinned += pinned;
+        self.layers = layers;
+        self.laid = Chain { head: 0, len: 0 };
+        self.aside = None;
+        self.pins.replaced();
+    }
+
+    /// Whether a pin is present.
+    pub fn has_pin(&self, pin: u64) -> bool
+        ensures { IsTrue result ↔ HasPin self.now pin }
+    {
+        self.pins.has(pin as usize)
+    }
+
+    /// Keeps the present layer blocks until [`Space::unpin`], also where they are replaced. The
+    /// number is one that no present pin has. On an error nothing has changed. Costs the layer
+    /// blocks where the present layers have no pin yet; later pins of the same layers cost nothing
+    /// more.
+    pub fn pin(&mut self) -> Result<u64, AllocError>
+        ensures ok { IfOk result (λ pin. IsPinned self.old self.new pin) }
+        ensures others { self.new ≡ record self.old { pins = self.new.pins } }
+        ensures err { OnErr result (self.new ≡ self.old) }
+    {
+        self.pins.sound();
+        let pin = self.pins.pin(self.links.as_slice(), self.layers)?;
+        Ok(pin as u64)
+    }
+
+    /// Ends a pin: replaced layer blocks that no other pin keeps are free. Takes no memory. Costs
+    /// the blocks that pins keep where it was the last pin of its layers, and else nothing more.
+    pub fn unpin(&mut self, pin: u64)
+        requires { HasPin self.old pin }
+        ensures { IsUnpinned self.old self.new pin }
+    {
+        let uses = self.uses.as_mut_slice();
+        let hints = self.hints.as_mut_slice();
+        let freed = end_pin(uses, hints, &mut self.pins, pin as usize);
+        self.free += freed;
+        self.pinned -= freed;
+    }
+
+    /// Ends what the number holds, and its seat: what it drew is free. Takes no memory. Costs the
+    /// blocks that it drew.
     pub fn undo(&mut self, who: u32)
         ensures { MatchOption (held_seat self.old.holders who) (self.new ≡ self.old)
             (λ seat. self.new ≡ holder_ended self.old Use.Free seat) }
@@ -453,9 +526,9 @@ impl Space {
         }
     }
 
-    /// Ends what the number holds, and its seat: what it drew is live. `sizes` are those of the tree and the
-    /// graveyard from now on; of these the nodes and attributes are kept, and the blocks are counted. Takes no
-    /// memory. Costs the blocks that the number drew.
+    /// Ends what the number holds, and its seat: what it drew is live. `sizes` are those of the
+    /// tree and the graveyard from now on; of these the nodes and attributes are kept, and the
+    /// blocks are counted. Takes no memory. Costs the blocks that the number drew.
     pub fn take_over(&mut self, who: u32, sizes: Sizes)
         requires { HasSeat self.old who }
         ensures { IfSome (held_seat self.old.holders who) (λ seat. self.new ≡
@@ -492,8 +565,8 @@ impl Space {
         self.waiting.reserve(blocks as usize)
     }
 
-    /// A live block was freed by the transaction with this number, the latest so far. It is free once that
-    /// transaction is settled. Takes no memory.
+    /// A live block was freed by the transaction with this number, the latest so far. It is free
+    /// once that transaction is settled. Takes no memory.
     pub fn freed(&mut self, block: u32, number: u64)
         requires live { use_at self.old.uses block ≡ Use.Live }
         requires room { 0 < self.old.room }
@@ -505,7 +578,8 @@ impl Space {
         self.waiting.push_back_reserved(Waiting { block, number });
     }
 
-    /// The blocks that transactions up to this number freed are free. Takes no memory. Costs these blocks.
+    /// The blocks that transactions up to this number freed are free. Takes no memory. Costs these
+    /// blocks.
     pub fn settled(&mut self, number: u64)
         ensures settled { self.new ≡ record (settling self.old number) { room = self.new.room } }
         ensures room { self.new.room ≡

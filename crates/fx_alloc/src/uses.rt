@@ -60,8 +60,8 @@ fn hinted(uses: &[Use], hints: &[u64], from: usize) -> Option<usize>
     }
 }
 
-/// The first free block from a place on, or else the first of all. Costs a look at each word of bits between, and one
-/// at the table of uses; were a bit wrong, a pass over that table.
+/// The first free block from a place on, or else the first of all. Costs a look at each word of
+/// bits between, and one at the table of uses; were a bit wrong, a pass over that table.
 pub(crate) fn next_free(uses: &[Use], hints: &[u64], from: usize) -> usize
     requires { 0 < count_by is_free uses.now }
     ensures free { use_at uses.now result ≡ Use.Free }

@@ -1,7 +1,7 @@
 use Rattle.std.proofs.Common.{◌≡◌, drop}
 use Rattle.fx_alloc.specs.declared.uses.Use.TheVariants.{Free, Layer}
 use Rattle.fx_alloc.specs.Uses.{put_all, blocks_from}
-use Rattle.fx_alloc.specs.Inside.{AreUsed}
+use Rattle.fx_alloc.specs.Uses.{AreUsed}
 use Rattle.fx_alloc.proofs.chain.chain_up.Given as goal
 
 abbrev pub invariant-loop-block : goal.invariant-loop-block

@@ -3,10 +3,11 @@ use Rattle.fx_alloc.specs.declared.uses.Use.{Use}
 use Rattle.fx_alloc.specs.declared.uses.Use.TheVariants.{Free, Live, Layer}
 use Rattle.fx_alloc.specs.declared.holders.TheConstants.{VACANT}
 use Rattle.fx_alloc.specs.Uses.{put_all, blank, blocks_from}
-use Rattle.fx_alloc.specs.Inside.{AreUsed}
+use Rattle.fx_alloc.specs.Uses.{AreUsed}
 use Rattle.fx_alloc.proofs.UseLists.{length-put_all, length-blank}
 use Rattle.fx_alloc.proofs.SpaceKept.{refill}
 use Rattle.fx_alloc.proofs.SpaceOpened.{free_layers, few_blocks, IsSpace-opened}
+use Rattle.fx_alloc.proofs.FitPins.{FitPins-none}
 use Rattle.fx_alloc.proofs.space.Space.new.Goals as goal
 
 pub chain_up-layers-requires-clause-free : goal.chain_up-layers-requires-clause-free
@@ -53,9 +54,11 @@ invariant_of-result c =
       holders,
       heads,
       c.new.ensures.items,
+      c.new-pins.ensures,
     )
-    (IsSpace-opened c.args.blocks c.args.ring c.args.live.now c.args.layers.now c.requires.ring c.requires.places c.requires.apart c.chain_up-layers.new.links c.chain_up-layers.result
-    (omega arith) (omega (arith, c.chain_up-layers.auto.links, ap (λ (us : List ℕ). length us) c.as_mut_slice-2.ensures.value, c.in_ok-links.ensures.len, c.in_ok-links.links.ok)) c.chain_up-layers.ensures.len chained)
+    (let s = IsSpace-opened c.args.blocks c.args.ring c.args.live.now c.args.layers.now c.requires.ring c.requires.places c.requires.apart c.chain_up-layers.new.links c.chain_up-layers.result
+    (omega arith) (omega (arith, c.chain_up-layers.auto.links, ap (λ (us : List ℕ). length us) c.as_mut_slice-2.ensures.value, c.in_ok-links.ensures.len, c.in_ok-links.links.ok)) c.chain_up-layers.ensures.len chained in
+    (s, FitPins-none (put_all Layer c.args.layers.now (put_all Live c.args.live.now (blank c.args.blocks c.args.ring))) s.counts.of_pinned))
 
 pub returns : goal.returns
 returns c =
@@ -66,4 +69,5 @@ returns c =
       uses,
       holders,
       c.new.ensures.items,
+      c.new-pins.ensures,
     ) refl

@@ -5,10 +5,12 @@ use Rattle.fx_alloc.proofs.SpaceKept.{IsSpace-seat_given, seat_given-has, vacant
 use Rattle.fx_alloc.proofs.space.Space.slot.Goals as goal
 
 pub invariant_of-self : goal.invariant_of-self
-invariant_of-self c =
-    IsSpace-seat_given c.args.who c.in-Some-find_vacant.seat c.self.invariant
-    (subst (λ (l : List Holder). held_seat l c.args.who ≡ None) c.as_slice.ensures.value (sym c.find_seat.ensures ∙ c.in-None.is))
-    (subst (λ (l : List Holder). vacant_seat l ≡ Some c.in-Some-find_vacant.seat) c.as_slice-in-None.ensures.value (sym c.find_vacant.ensures ∙ c.in-Some-find_vacant.is))
+invariant_of-self c = (
+  IsSpace-seat_given c.args.who c.in-Some-find_vacant.seat c.self.invariant.0
+      (subst (λ (l : List Holder). held_seat l c.args.who ≡ None) c.as_slice.ensures.value (sym c.find_seat.ensures ∙ c.in-None.is))
+      (subst (λ (l : List Holder). vacant_seat l ≡ Some c.in-Some-find_vacant.seat) c.as_slice-in-None.ensures.value (sym c.find_vacant.ensures ∙ c.in-Some-find_vacant.is)),
+  c.self.invariant.1,
+)
 
 pub returns-in-Some-find_vacant-clause-seat_given : goal.returns-in-Some-find_vacant-clause-seat_given
 returns-in-Some-find_vacant-clause-seat_given c =
