@@ -1,9 +1,10 @@
 -- The number that an image keeps exists and is one: whether a list of transactions passes can be decided.
-use Rattle.std.proofs.Common.{◌≡◌, ◌≢◌, ℕ, zero, suc, ◌+◌, ◌-◌, ◌<◌, ◌≤◌, ◌==◌, ◌&&◌, ◌⊎◌, inl, inr, Bool, true, false, cond, List, [], ◌∷◌, ◌++◌, map, length, take, Option, Some, None, refl, sym, ap, ◌∙◌, subst, arith, eqb-true, eq-eqb}
-use Rattle.std.specs.List.{Contains, fold, list_any, list_all, flat_map}
-use Rattle.std.proofs.lemmas.Bool.{cases_lt, eqb-false, and_parts, and_from}
+use Rattle.std.proofs.Common.{◌≡◌, ◌≢◌, ℕ, zero, suc, ◌+◌, ◌-◌, ◌<◌, ◌≤◌, ◌==◌, ◌||◌, ◌⊎◌, inl, inr, Bool, true, false, cond, List, [], ◌∷◌, ◌++◌, length, take, Option, Some, None, refl, sym, ap, ◌∙◌, subst, arith, eqb-true, eq-eqb}
+use Rattle.std.specs.List.{Contains, fold, list_any}
+use Rattle.std.proofs.lemmas.Bool.{cases_lt, eqb-false}
+use Rattle.std.proofs.lemmas.List.Folds.{list_any-append}
 use Rattle.fx_item.specs.Item.{PlainItem}
-use Rattle.fx_verify.specs.Kept.{written_by, is_freed_by, last_stated, after_items, live_sum, Passes, IsKeptNumber}
+use Rattle.fx_verify.specs.Kept.{is_written, writes_block, written_by, is_freed_by, last_stated, after_items, live_sum, Passes, IsKeptNumber}
 
 -- ---- only one
 
@@ -70,10 +71,10 @@ live_among b (t ∷ ts) old x e =
 Right : List (ℕ × List PlainItem) → List (ℕ × ℕ) → ℕ → Type 0
 Right ts found b = (x : ℕ) → live_sum ts b ≡ Some x → Contains found (b, x)
 
-contains_cons : (p q : ℕ × ℕ) (ps : List (ℕ × ℕ)) → Contains ps q → Contains (p ∷ ps) q
+pub contains_cons : (p q : ℕ × ℕ) (ps : List (ℕ × ℕ)) → Contains ps q → Contains (p ∷ ps) q
 contains_cons p q ps (k, lt, is) = (suc k, omega arith, is)
 
-contains_or : (p q : ℕ × ℕ) (ps : List (ℕ × ℕ)) → Contains (p ∷ ps) q → (p ≡ q) ⊎ Contains ps q
+pub contains_or : (p q : ℕ × ℕ) (ps : List (ℕ × ℕ)) → Contains (p ∷ ps) q → (p ≡ q) ⊎ Contains ps q
 contains_or p q ps (zero, lt, is) = inl is
 contains_or p q ps (suc k, lt, is) = inr (k, omega arith, is)
 
@@ -87,7 +88,7 @@ pair_or_not p q =
       ] refl
     ] refl
 
-contains_nothing : (q : ℕ × ℕ) → Contains [] q → ⊥
+pub contains_nothing : (q : ℕ × ℕ) → Contains [] q → ⊥
 contains_nothing q (k, lt, is) = absurd (omega arith)
 
 contained : (found : List (ℕ × ℕ)) (q : ℕ × ℕ) → Contains found q ⊎ (Contains found q → ⊥)
@@ -175,3 +176,25 @@ search_down base txns found (suc n) le above =
 
 pub exists : (base : ℕ) (txns : List (ℕ × List PlainItem)) (found : List (ℕ × ℕ)) → (k : ℕ) × IsKeptNumber base txns found k
 exists base txns found = search_down base txns found (length txns) (omega arith) (λ j more most _. absurd (omega arith))
+
+-- ---- what is live was written
+
+among_any : (b : ℕ) (ps : List (ℕ × ℕ)) → Among b ps → list_any (λ p. p.0 == b) ps ≡ true
+among_any b [] a = elim a [ ]
+among_any b (p ∷ ps) (Here e) = ap (λ t. t || list_any (λ q. q.0 == b) ps) (eq-eqb p.0 b e)
+among_any b (p ∷ ps) (Later a) = ap (λ t. (p.0 == b) || t) (among_any b ps a) ∙ true_last (p.0 == b)
+  where
+    true_last : (t : Bool) → (t || true) ≡ true
+    true_last true = refl
+    true_last false = refl
+
+all_any : (b : ℕ) (ts : List (ℕ × List PlainItem)) → list_any (λ p. p.0 == b) (all_written ts) ≡ is_written ts b
+unfolding all_written
+all_any b [] = refl
+all_any b (t ∷ ts) = list_any-append (λ (p : ℕ × ℕ). p.0 == b) (written_by t.1) (all_written ts) ∙ ap (λ r. writes_block t.1 b || r) (all_any b ts)
+
+pub live_written : (ts : List (ℕ × List PlainItem)) (b x : ℕ) → live_sum ts b ≡ Some x → is_written ts b ≡ true
+live_written ts b x live = elim (live_among b ts None x live) [
+  | inl a ↦ sym (all_any b ts) ∙ among_any b (all_written ts) a
+  | inr y ↦ absurd (none_some y.0 y.1)
+]

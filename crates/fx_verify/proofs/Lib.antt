@@ -1,1 +1,7 @@
-pub mod KeptLaws
+mod KeptLaws
+mod Found
+mod Sums
+mod Numbers
+pub mod Moved
+mod Judging
+mod Sets

@@ -1,7 +1,8 @@
 -- What transactions say of the blocks that they write, and which transactions an image keeps.
-use Rattle.std.specs.Prelude.{◌≡◌, ℕ, ◌+◌, ◌-◌, ◌<◌, ◌≤◌, ◌==◌, ◌&&◌, nat_le, nat_lt, Bool, false, if◌then◌else◌, List, [], ◌∷◌, length, map, filter, take, Option, None, Some}
+use Rattle.std.specs.Prelude.{◌≡◌, ℕ, ◌+◌, ◌-◌, ◌<◌, ◌≤◌, ◌==◌, ◌&&◌, nat_le, nat_lt, Bool, true, false, if◌then◌else◌, List, [], ◌∷◌, length, map, filter, take, Option, None, Some}
 use Rattle.std.specs.List.{Contains, flat_map, fold, list_any}
-use Rattle.fx_item.specs.Item.{PlainKey, ExtentKey, AllocationKey, PlainValue, GoneValue, ExtentValue, TakenValue, PlainItem}
+use Rattle.fx_item.specs.Item.{PlainKey, ExtentKey, AllocationKey, PlainValue, GoneValue, ExtentValue, TakenValue, PlainItem, items_of}
+use Rattle.fx_item.specs.declared.item.Item.{Item}
 
 -- ---- one transaction, by its items
 
@@ -18,12 +19,15 @@ sums_under _ _ = []
 abbrev pub block_sums_of : PlainItem → List (ℕ × ℕ)
 block_sums_of x = sums_under x.key x.value
 
+abbrev pub is_within : ℕ → ℕ → ℕ → Bool
+is_within start stop block = nat_le start block && nat_lt block stop
+
 abbrev pub is_taken_under : ℕ → PlainKey → PlainValue → Bool
-is_taken_under block (AllocationKey start stop) TakenValue = nat_le start block && nat_lt block stop
+is_taken_under block (AllocationKey start stop) TakenValue = is_within start stop block
 is_taken_under block _ _ = false
 
 abbrev pub is_freed_under : ℕ → PlainKey → PlainValue → Bool
-is_freed_under block (AllocationKey start stop) GoneValue = nat_le start block && nat_lt block stop
+is_freed_under block (AllocationKey start stop) GoneValue = is_within start stop block
 is_freed_under block _ _ = false
 
 -- whether the transaction takes the block, and whether it frees it
@@ -37,7 +41,19 @@ is_freed_by items block = list_any (λ x. is_freed_under block x.key x.value) it
 abbrev pub written_by : List PlainItem → List (ℕ × ℕ)
 written_by items = filter (λ p. is_taken_by items p.0) (flat_map block_sums_of items)
 
+-- whether it writes the block
+abbrev pub writes_block : List PlainItem → ℕ → Bool
+writes_block items block = list_any (λ p. p.0 == block) (written_by items)
+
 -- ---- transactions one after another
+
+-- the program's transactions, each a number and its items, as plain data
+abbrev pub plain_txns : List (ℕ × List Item) → List (ℕ × List PlainItem)
+plain_txns txns = map (λ t. (t.0, items_of t.1)) txns
+
+-- whether one of them writes the block
+abbrev pub is_written : List (ℕ × List PlainItem) → ℕ → Bool
+is_written txns block = list_any (λ t. writes_block t.1 block) txns
 
 -- what the list states last for the block, and what stood before where it states nothing
 abbrev pub last_stated : ℕ → List (ℕ × ℕ) → Option ℕ → Option ℕ
@@ -69,6 +85,11 @@ pub record IsKeptNumber (base : ℕ) (txns : List (ℕ × List PlainItem)) (foun
   pub greatest : (j : ℕ) → k < j → j ≤ base + length txns → Passes (take (j - base) txns) found → ⊥
 
 -- ---- laws
+
+-- what is live was written
+abbrev pub LiveIsWritten : Type 0
+LiveIsWritten = (txns : List (ℕ × List PlainItem)) (block sum : ℕ) →
+    live_sum txns block ≡ Some sum → is_written txns block ≡ true
 
 -- there is such a number
 abbrev pub KeptExists : Type 0

@@ -1,0 +1,6 @@
+pub mod Looked
+pub mod Chains
+pub mod Runs
+pub mod SoFar
+pub mod Rows
+pub mod Pieces

@@ -1,0 +1,5 @@
+pub mod Blocks
+pub mod Touched
+pub mod Staged
+pub mod Allocations
+pub mod Reading
