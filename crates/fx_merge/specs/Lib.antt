@@ -1,0 +1,4 @@
+pub mod Choice
+pub mod Cursor
+pub mod Merge
+pub mod Run
