@@ -18,10 +18,7 @@ EXCEPTIONS = {
 }
 # Names that stand twice and are still to get names of their own.
 TO_COME = {
-    "Gives", "GoesOn", "Holds", "IsBelow", "IsMade",
-    "IsReady", "IsWithin", "KeepsOthers", "Knows", "Takes", "bare",
-    "by_path", "bytes_of", "entry_of", "node_at", "node_code", "node_of",
-    "place_after", "read_of", "tree_after",
+    "bare",
 }
 
 DEFINES = re.compile(
