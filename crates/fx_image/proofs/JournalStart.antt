@@ -1,5 +1,5 @@
 -- The journal of a disk that was just mounted.
-use Rattle.std.proofs.Common.{◌≡◌, ℕ, ◌≤◌, true, false, List, length, refl, sym, ◌∙◌, ap, arith, append-nil}
+use Rattle.std.proofs.Common.{◌≡◌, ℕ, true, false, List, refl, sym, ◌∙◌, ap, arith, append-nil}
 use Rattle.std.specs.Prelude.{Option, Some, None, option_and_then, option_map, if◌then◌else◌}
 use Rattle.std.specs.FinMap.{same_map}
 use Rattle.std.proofs.lemmas.List.Elements.{All-nil}
@@ -20,8 +20,9 @@ use Rattle.fx_journal.specs.declared.stream.StreamBlock.{StreamBlock}
 use Rattle.fx_record.specs.Commits.{IsCommit}
 use Rattle.fx_super.specs.Super.{Fields}
 use Rattle.fx_image.specs.Standing.{Transactions, StandsFor, items_after, lists_of}
-use Rattle.fx_log.proofs.LogRaised.{log-new}
-use Rattle.fx_image.specs.Journal.{IsJournal, IsReading, new_journal}
+use Rattle.fx_supers.specs.Supers.{Supers}
+use Rattle.fx_supers.specs.SessionLog.{IsSessionLog, bare_session}
+use Rattle.fx_image.specs.Journal.{IsJournal, IsReading, IsUncut, new_journal}
 use Rattle.fx_image.proofs.Replay.{replay_none}
 
 -- ---- a tree that items stand for has files that hold nothing
@@ -46,11 +47,13 @@ stands-bare m tree s = same_map paths_total paths_exact tree (bare tree)
 
 -- ---- the journal
 
-module _ (size from : ℕ) (tree : Tree) (base : ℕ) (super : Fields) (read : List StreamBlock) (place : Start) (txns : Transactions) (reading : IsReading size base super read place txns) (fits : length read ≤ super.ring) where
-  pub journal-new : (calls : ℕ) → StandsFor (items_after txns) tree → IsJournal (new_journal size from tree base super read place txns) calls
+module _ (size from : ℕ) (tree : Tree) (base : ℕ) (super : Fields) (read : List StreamBlock) (place : Start) (txns : Transactions) (reading : IsReading size base super read place txns) (supers : Supers)
+    (log : IsSessionLog (bare_session size from (record { super = super; read = read; place = place }) supers)) (uncut : IsUncut super supers) where
+  pub journal-new : (calls : ℕ) → StandsFor (items_after txns) tree → IsJournal (new_journal size from tree base super read place txns supers) calls
   journal-new calls stands = record {
     reading = reading;
-    tail = (log-new size from super read place reading.head fits).tail;
+    log = log;
+    uncut = uncut;
     records = record { each = All-nil IsCommit; joined = refl };
     marked = record { few = omega arith; first = first_none; by_now = λ i d lt. absurd (omega arith); whole = omega arith };
     few = record {

@@ -17,8 +17,9 @@ use Rattle.fx_record.specs.Commits.{IsCommit, commits_bytes}
 use Rattle.fx_record.proofs.Commits.{commits_bytes-push}
 use Rattle.fx_super.specs.Super.{Fields}
 use Rattle.fx_image.specs.Standing.{Transactions, lists_of}
-use Rattle.fx_log.specs.Log.{Appends, IsLog, IsTail, IsWrittenOut, closed_tail}
-use Rattle.fx_log.specs.Ring.{AreClosed}
+use Rattle.fx_log.specs.Log.{IsWrittenOut}
+use Rattle.fx_supers.specs.InMemory.{AppendsTo}
+use Rattle.fx_supers.proofs.LogKept.{session-closed, session-flushed, session-written}
 use Rattle.fx_image.specs.Journal.{Journal, IsJournal, IsNextCommit, AreRecords, AreMarked, AreFew, commit_bytes, with_commit, with_closed, with_written, with_settled}
 use Rattle.fx_image.proofs.Replay.{replay_settled}
 use Rattle.fx_image.proofs.PrefixImage.{text_of, texts-fewer}
@@ -88,34 +89,29 @@ few-settled super txns history other records same h = record { few = omega (arit
 -- ---- what happens
 
 module _ (j : Journal) (calls : ℕ) (h : IsJournal j calls) where
-  -- its log
-  pub log-is : IsLog j.log
-  log-is = record { head = h.reading.head; tail = h.tail }
-
-  tail-closed : (closed : List Queued) (chain : ℕ) (text : List ℕ) → AreClosed j.log.head.super j.log.head.read j.log.head.place (j.log.tail.blocks ++ closed) chain → IsTail j.log.head (closed_tail j.log.tail closed chain text)
-  tail-closed closed chain text blocks = record { closed = blocks; fewer = h.tail.fewer; most = omega (arith, h.tail.most, length-append j.log.tail.blocks closed) }
-
-  pub journal-commit : (entry : Entry) (items : List PlainItem) (closed : List Queued) (chain : ℕ) (text : List ℕ) → IsNextCommit j entry items → Appends j.log (commit_bytes entry items) closed chain text → IsJournal (with_commit j entry items closed chain text) calls
+  pub journal-commit : (entry : Entry) (items : List PlainItem) (closed : List Queued) (chain : ℕ) (text : List ℕ) → IsNextCommit j entry items → AppendsTo j.log (commit_bytes entry items) closed chain text → IsJournal (with_commit j entry items closed chain text) calls
   journal-commit entry items closed chain text c a = record {
     reading = h.reading;
-    tail = tail-closed closed chain text a.blocks;
+    log = session-closed j.log h.log closed chain text a.may;
+    uncut = h.uncut;
     records = records-closed j.opening.base j.log.tail.blocks closed j.log.tail.text text (commit_bytes entry items) j.commits.records (j.commits.records ++ items ∷ [])
         (All-push IsCommit j.commits.records items h.records.each c.items_are) h.records a.joined
         (ap (λ (n : ℕ). commits_bytes j.opening.base j.commits.records ++ record_bytes (TransactionRecord n items)) (c.number ∙ ap (λ (n : ℕ). j.opening.base + n + 1) (sym h.replays.one_each))
         ∙ sym (commits_bytes-push j.opening.base j.commits.records items));
     marked = marked-more calls j.opening.base (j.log.tail.blocks ++ closed) j.log.tail.settled j.commits.history j.commits.records j.commits.marks entry items h.replays.one_each c.settled
-        (marked-closed calls j.opening.base j.log.tail.blocks closed j.log.tail.settled j.commits.history j.commits.records j.commits.marks (omega (arith, h.tail.fewer, h.tail.most)) h.marked);
+        (marked-closed calls j.opening.base j.log.tail.blocks closed j.log.tail.settled j.commits.history j.commits.records j.commits.marks (omega (arith, h.log.fewer, h.log.most)) h.marked);
     few = few-more j.log.head.super j.opening.txns j.commits.history j.commits.records entry items h.few c.few c.id c.store;
     legal = c.legal;
     replays = c.replays;
   }
 
-  pub journal-close : (closed : List Queued) (chain : ℕ) (text : List ℕ) → Appends j.log [] closed chain text → IsJournal (with_closed j closed chain text) calls
+  pub journal-close : (closed : List Queued) (chain : ℕ) (text : List ℕ) → AppendsTo j.log [] closed chain text → IsJournal (with_closed j closed chain text) calls
   journal-close closed chain text a = record {
     reading = h.reading;
-    tail = tail-closed closed chain text a.blocks;
+    log = session-closed j.log h.log closed chain text a.may;
+    uncut = h.uncut;
     records = records-closed j.opening.base j.log.tail.blocks closed j.log.tail.text text [] j.commits.records j.commits.records h.records.each h.records a.joined (append-nil (commits_bytes j.opening.base j.commits.records));
-    marked = marked-closed calls j.opening.base j.log.tail.blocks closed j.log.tail.settled j.commits.history j.commits.records j.commits.marks (omega (arith, h.tail.fewer, h.tail.most)) h.marked;
+    marked = marked-closed calls j.opening.base j.log.tail.blocks closed j.log.tail.settled j.commits.history j.commits.records j.commits.marks (omega (arith, h.log.fewer, h.log.most)) h.marked;
     few = h.few;
     legal = h.legal;
     replays = h.replays;
@@ -125,7 +121,8 @@ module _ (j : Journal) (calls : ℕ) (h : IsJournal j calls) where
   pub journal-calls : (more : ℕ) → calls ≤ more → IsJournal j more
   journal-calls more le = record {
     reading = h.reading;
-    tail = h.tail;
+    log = h.log;
+    uncut = h.uncut;
     records = h.records;
     marked = marked-flushed calls more j.opening.base j.log.tail.blocks j.log.tail.settled j.log.tail.settled j.commits.history j.commits.records j.commits.marks le (omega arith) h.marked;
     few = h.few;
@@ -136,7 +133,8 @@ module _ (j : Journal) (calls : ℕ) (h : IsJournal j calls) where
   pub journal-write : (more : ℕ) → calls ≤ more → j.log.tail.written < length j.log.tail.blocks → IsJournal (with_written j) more
   journal-write more le some = record {
     reading = h.reading;
-    tail = record { closed = h.tail.closed; fewer = omega (arith, h.tail.fewer); most = omega arith };
+    log = session-written j.log h.log some;
+    uncut = h.uncut;
     records = h.records;
     marked = marked-flushed calls more j.opening.base j.log.tail.blocks j.log.tail.settled j.log.tail.settled j.commits.history j.commits.records j.commits.marks le (omega arith) h.marked;
     few = h.few;
@@ -148,7 +146,8 @@ module _ (j : Journal) (calls : ℕ) (h : IsJournal j calls) where
   pub journal-settle : (more : ℕ) → calls ≤ more → 1 ≤ more → IsWrittenOut j.log.tail → IsJournal (with_settled more j) more
   journal-settle more le some out = record {
     reading = h.reading;
-    tail = record { closed = h.tail.closed; fewer = omega arith; most = h.tail.most };
+    log = session-flushed j.log h.log;
+    uncut = h.uncut;
     records = h.records;
     marked = record {
       few = omega (arith, settle_length more j.commits.history);

@@ -1,5 +1,5 @@
 -- The same of what a disk tells, or does not tell, over calls that were made or not.
-use Rattle.std.proofs.Common.{◌≡◌, ℕ, ◌+◌, List, ◌++◌, Bool, true, length, sym, subst, ⊎_elim}
+use Rattle.std.proofs.Common.{◌≡◌, ℕ, ◌+◌, ◌≤◌, List, Bool, true, length, sym, subst, ⊎_elim}
 use Rattle.std.specs.Prelude.{Option, Some, IfSome, slice_get}
 use Rattle.fx_disk.specs.Record.{DiskRecord}
 use Rattle.fx_disk.specs.Steps.{IsRecordOf, Writes, Flushes, MadeOrNot, with_write}
@@ -16,15 +16,17 @@ use Rattle.fx_super.specs.Chosen.{IsChosen, block_number, other}
 use Rattle.fx_super.specs.declared.choice.Which.{Which}
 use Rattle.fx_log.specs.Chosen.{next_generation, start_of}
 use Rattle.fx_log.specs.Raising.{ChoosesNext}
-use Rattle.fx_log.specs.Ring.{AreClosed, place_in, bytes_in}
-use Rattle.fx_image.specs.Standing.{Transactions}
+use Rattle.fx_log.specs.Ring.{place_in, bytes_in}
+use Rattle.fx_supers.specs.Supers.{Supers, only_supers, put_supers, raised_cut}
+use Rattle.fx_image.specs.Standing.{StandsFor, Transactions, items_after}
 use Rattle.fx_image.specs.Prefix.{KeepsAll}
 use Rattle.fx_log.specs.Log.{IsWrittenOut}
-use Rattle.fx_image.specs.Journal.{Journal, IsJournal, IsNextCommit, HasJournal, IsOnDisk, new_journal, with_commit, with_closed, with_written, with_settled}
+use Rattle.fx_image.specs.Journal.{Journal, IsJournal, IsNextCommit, IsReading, HasJournal, HasOpened, IsOnDisk, new_journal, with_commit, with_closed, with_written, with_settled}
 use Rattle.fx_disk.proofs.Made.{good-made}
 use Rattle.fx_image.proofs.PrefixNow.{keeps-all}
-use Rattle.fx_image.proofs.JournalCalls.{disk-commit, disk-close, disk-tried, disk-written, disk-flush, disk-settled}
-use Rattle.fx_image.proofs.MountCalls.{begun-read, begun-raise, begun-flush}
+use Rattle.fx_image.proofs.JournalCalls.{disk-commit, disk-close, disk-tried, disk-written, disk-flush, disk-settled, journal-flush}
+use Rattle.fx_image.proofs.MountCalls.{begun-read, begun-raise, begun-finish, log-put, log-read, uncut-put, uncut-read}
+use Rattle.fx_image.proofs.JournalStart.{journal-new}
 
 -- what the counts and the record tell together
 abbrev Known : ℕ → ℕ → (DiskRecord → Type 0) → DiskRecord → Type 0
@@ -36,16 +38,16 @@ known size count I told is h = told-both (IsRecordOf size count) I (Known size c
 -- ---- commits
 
 module _ (told : Option DiskRecord) (j : Journal) (count : ℕ) (h : IsJournal j count) (d : IfSome told (IsOnDisk j)) where
-  pub told-commit : (entry : Entry) (items : List PlainItem) (closed : List Queued) (chain : ℕ) (text : List ℕ) → IsNextCommit j entry items → AreClosed j.log.head.super j.log.head.read j.log.head.place (j.log.tail.blocks ++ closed) chain → IfSome told (IsOnDisk (with_commit j entry items closed chain text))
-  told-commit entry items closed chain text c blocks = told-map (IsOnDisk j) (IsOnDisk (with_commit j entry items closed chain text)) told (λ r k. disk-commit j count h r k entry items closed chain text c blocks) d
+  pub told-commit : (entry : Entry) (items : List PlainItem) (closed : List Queued) (chain : ℕ) (text : List ℕ) → IsNextCommit j entry items → IfSome told (IsOnDisk (with_commit j entry items closed chain text))
+  told-commit entry items closed chain text c = told-map (IsOnDisk j) (IsOnDisk (with_commit j entry items closed chain text)) told (λ r k. disk-commit j count h r k entry items closed chain text c) d
 
-  pub told-close : (closed : List Queued) (chain : ℕ) (text : List ℕ) → AreClosed j.log.head.super j.log.head.read j.log.head.place (j.log.tail.blocks ++ closed) chain → IfSome told (IsOnDisk (with_closed j closed chain text))
-  told-close closed chain text blocks = told-map (IsOnDisk j) (IsOnDisk (with_closed j closed chain text)) told (λ r k. disk-close j count h r k closed chain text blocks) d
+  pub told-close : (closed : List Queued) (chain : ℕ) (text : List ℕ) → IfSome told (IsOnDisk (with_closed j closed chain text))
+  told-close closed chain text = told-map (IsOnDisk j) (IsOnDisk (with_closed j closed chain text)) told (λ r k. disk-close j count h r k closed chain text) d
 
   -- what a stop leaves now, where all is settled
   pub told-all : IsWrittenOut j.log.tail → j.log.tail.settled ≡ j.log.tail.written → IfSome told (KeepsAll j.log.size j.log.from j.opening.tree j.opening.base j.commits.history)
   told-all out all = told-map (IsOnDisk j) (KeepsAll j.log.size j.log.from j.opening.tree j.opening.base j.commits.history) told
-      (λ r o. keeps-all j count h r o.journal.log o.next out all) d
+      (λ r o. keeps-all j count h r o.journal.log out all) d
 
 -- ---- calls
 
@@ -88,42 +90,75 @@ pub record ReadsAs (which : Which) (super : Fields) (read : List StreamBlock) (p
   pub stream : IsStream r.contents super.ring super.generation (start_of super) read place
 
 module _ (size count : ℕ) (tree : Tree) (base : ℕ) (super : Fields) (read : List StreamBlock) (place : Start) (txns : Transactions)
-    (calls : ℕ) (h : IsJournal (new_journal size count tree base super read place txns) calls)
-    (before : Option DiskRecord) (is : IfSome before (IsRecordOf size count)) (which : Which) (reads : IfSome before (ReadsAs which super read place)) where
-  abbrev j : Journal
-  j = new_journal size count tree base super read place txns
+    (reading : IsReading size base super read place txns) (fits : length read ≤ super.ring) (stands : StandsFor (items_after txns) tree) where
+  abbrev journal : Supers → Journal
+  journal supers = new_journal size count tree base super read place txns supers
 
-  pub told-read : IfSome before (HasJournal (new_journal size count tree base super read place txns))
-  told-read = told-map (Known size count (ReadsAs which super read place)) (HasJournal j) before
-      (λ r k. by r count k.0.counted h k.0 k.1) (known size count (ReadsAs which super read place) before is reads)
-    where
-      by : (r : DiskRecord) (n : ℕ) → length r.calls ≡ n → IsJournal (new_journal size n tree base super read place txns) calls → IsRecordOf size n r → ReadsAs which super read place r → HasJournal (new_journal size n tree base super read place txns) r
-      by r n same own ok seen =
-          subst (λ (m : ℕ). IsJournal (new_journal size m tree base super read place txns) calls → IsRecordOf size m r → HasJournal (new_journal size m tree base super read place txns) r) same
-          (λ own ok. begun-read size r ok tree base super read place txns calls own which seen.chosen seen.stream) own ok
+  abbrev Opened : DiskRecord → Type 0
+  Opened = HasOpened size count tree base super read place txns
 
-  module _ (bytes : List ℕ) (next : IsSuper bytes (next_generation super)) (mid : Option DiskRecord) (counted : ℕ) (made ok : Bool)
-      (w : MadeOrNot count counted made ok (Writes before mid (block_number (other which)) bytes ok) (mid ≡ before)) where
-    -- the superblock of the next generation was written, or not
-    pub told-raise : IfSome mid (HasJournal (new_journal size count tree base super read place txns))
-    told-raise = ⊎_elim
-        (λ y. made-write (Known size count (ReadsAs which super read place)) (HasJournal j) before mid (block_number (other which)) bytes ok y.done
-        (λ r held holds k. by r held count k.0.counted h k.0 k.1) (known size count (ReadsAs which super read place) before is reads))
-        (λ no. subst (λ (o : Option DiskRecord). IfSome o (HasJournal j)) (sym no.same) told-read) w
+  -- ---- before the superblock is raised
+
+  module _ (before : Option DiskRecord) (is : IfSome before (IsRecordOf size count)) (which : Which) (reads : IfSome before (ReadsAs which super read place)) where
+    told-read : IfSome before Opened
+    told-read = told-map (Known size count (ReadsAs which super read place)) Opened before
+        (λ r k. by r count k.0.counted k.0 k.1) (known size count (ReadsAs which super read place) before is reads)
       where
-        by : (r : DiskRecord) (held : List ℕ) (n : ℕ) → length r.calls ≡ n → IsJournal (new_journal size n tree base super read place txns) calls → IsRecordOf size n r → ReadsAs which super read place r
-            → HasJournal (new_journal size n tree base super read place txns) (with_write r (block_number (other which)) bytes ok held)
-        by r held n same own is seen =
-            subst (λ (m : ℕ). IsJournal (new_journal size m tree base super read place txns) calls → IsRecordOf size m r → HasJournal (new_journal size m tree base super read place txns) (with_write r (block_number (other which)) bytes ok held)) same
-            (λ own is. begun-raise size r is tree base super read place txns calls own which seen.chosen seen.stream bytes next ok held) own is
+        by : (r : DiskRecord) (n : ℕ) → length r.calls ≡ n → IsRecordOf size n r → ReadsAs which super read place r → HasOpened size n tree base super read place txns r
+        by r n same ok seen =
+            subst (λ (m : ℕ). IsRecordOf size m r → HasOpened size m tree base super read place txns r) same
+            (λ own. record {
+              supers = only_supers super which;
+              log = log-read size (length r.calls) tree base super read place txns reading fits which;
+              uncut = uncut-read super which;
+              journal = begun-read size r own tree base super read place txns reading fits stands which seen.chosen seen.stream;
+            }) ok
 
--- the flush after it, or any flush before the first commit
-pub told-begun-flush : (size from : ℕ) (tree : Tree) (base : ℕ) (super : Fields) (read : List StreamBlock) (place : Start) (txns : Transactions) (calls : ℕ) → IsJournal (new_journal size from tree base super read place txns) calls
-    → (mid after : Option DiskRecord) (count counted : ℕ) (made ok : Bool) → MadeOrNot count counted made ok (Flushes mid after ok) (after ≡ mid)
-    → IfSome mid (HasJournal (new_journal size from tree base super read place txns)) → IfSome after (HasJournal (new_journal size from tree base super read place txns))
-told-begun-flush size from tree base super read place txns calls h mid after count counted made ok w d =
-    told-flush mid after count counted made ok (HasJournal (new_journal size from tree base super read place txns)) (HasJournal (new_journal size from tree base super read place txns)) w
-    (λ r k. k) (λ r k. begun-flush size from tree base super read place txns calls h r k ok) d
+    module _ (bytes : List ℕ) (next : IsSuper bytes (next_generation super)) where
+      -- the superblock of the next generation is written, by a good write or a failed one
+      abbrev Put : Bool → DiskRecord → Type 0
+      Put good = HasJournal (journal (put_supers (only_supers super which) (raised_cut super) good))
+
+      put-by : (r : DiskRecord) (good : Bool) (held : List ℕ) (n : ℕ) → length r.calls ≡ n → IsRecordOf size n r → ReadsAs which super read place r
+          → HasJournal (new_journal size n tree base super read place txns (put_supers (only_supers super which) (raised_cut super) good)) (with_write r (block_number (other which)) bytes good held)
+      put-by r good held n same is seen =
+          subst (λ (m : ℕ). IsRecordOf size m r → HasJournal (new_journal size m tree base super read place txns (put_supers (only_supers super which) (raised_cut super) good)) (with_write r (block_number (other which)) bytes good held)) same
+          (λ own. begun-raise size r own tree base super read place txns reading fits stands which seen.chosen seen.stream bytes next good held) is
+
+      told-put : (mid : Option DiskRecord) (good : Bool) → Writes before mid (block_number (other which)) bytes good → IfSome mid (Put good)
+      told-put mid good w = made-write (Known size count (ReadsAs which super read place)) (Put good) before mid (block_number (other which)) bytes good w
+          (λ r held holds k. put-by r good held count k.0.counted k.0 k.1) (known size count (ReadsAs which super read place) before is reads)
+
+      opened-put : (mid : Option DiskRecord) (good : Bool) → IfSome mid (Put good) → IfSome mid Opened
+      opened-put mid good d = told-map (Put good) Opened mid (λ r k. record {
+        supers = put_supers (only_supers super which) (raised_cut super) good;
+        log = log-put size count tree base super read place txns reading fits which next.rules good;
+        uncut = uncut-put super which good;
+        journal = k;
+      }) d
+
+      -- written, or not
+      pub told-raise : (mid : Option DiskRecord) (counted : ℕ) (made ok : Bool) → MadeOrNot count counted made ok (Writes before mid (block_number (other which)) bytes ok) (mid ≡ before) → IfSome mid (HasOpened size count tree base super read place txns)
+      told-raise mid counted made ok w = ⊎_elim
+          (λ y. opened-put mid ok (told-put mid ok y.done))
+          (λ no. subst (λ (o : Option DiskRecord). IfSome o Opened) (sym no.same) told-read) w
+
+      -- written by a good write, and flushed by a good flush
+      pub told-raised : (mid after : Option DiskRecord) → Writes before mid (block_number (other which)) bytes true → Flushes mid after true
+          → IfSome after (HasJournal (new_journal size count tree base super read place txns (only_supers (next_generation super) (other which))))
+      told-raised mid after w v = made-flush (Put true) (HasJournal (journal (only_supers (next_generation super) (other which)))) mid after true v
+          (λ r k. begun-finish size count tree base super read place txns reading fits stands which next.rules r k) (told-put mid true w)
+
+  -- any flush before the first commit
+  pub told-begun-flush : (mid after : Option DiskRecord) (calls counted : ℕ) (made ok : Bool) → MadeOrNot calls counted made ok (Flushes mid after ok) (after ≡ mid)
+      → IfSome mid (HasOpened size count tree base super read place txns) → IfSome after (HasOpened size count tree base super read place txns)
+  told-begun-flush mid after calls counted made ok w d = told-flush mid after calls counted made ok Opened Opened w (λ r k. k)
+      (λ r k. record {
+        supers = k.supers;
+        log = k.log;
+        uncut = k.uncut;
+        journal = journal-flush (journal k.supers) count (journal-new size count tree base super read place txns reading k.supers k.log k.uncut count stands) r k.journal ok;
+      }) d
 
 -- both calls were good
 pub told-mounted : (j : Journal) (after : Option DiskRecord) → IfSome after (HasJournal j) → IfSome after (ChoosesNext j.log.from) → IfSome after (IsOnDisk j)

@@ -14,7 +14,7 @@ use Rattle.fx_super.specs.Super.{Fields}
 use Rattle.fx_image.specs.Standing.{Transactions, IsImage, StandsFor, HasAmpleRoom, items_after, kept}
 use Rattle.fx_log.specs.Ring.{BeganWith}
 use Rattle.fx_image.specs.Prefix.{IsPrefix, Began, KeepsPrefix}
-use Rattle.fx_image.specs.Journal.{HasJournal, IsReading, new_journal}
+use Rattle.fx_image.specs.Journal.{HasOpened, IsReading}
 use Rattle.fx_image.proofs.JournalStart.{stands-bare}
 use Rattle.fx_image.proofs.PrefixNow.{began-super, began-txns}
 use Rattle.fx_disk.proofs.Began.{left-first}
@@ -52,10 +52,10 @@ told-untouched size count tree base told is = told-map (IsRecordOf size count) (
 
 -- What the disk began with has one tree and one number, and these were read.
 module _ (size from : ℕ) (tree : Tree) (base : ℕ) (super : Fields) (read : List StreamBlock) (place : Start) (txns : Transactions) (reading : IsReading size base super read place txns) (stands : StandsFor (items_after txns) tree)
-    (r : DiskRecord) (d : HasJournal (new_journal size from tree base super read place txns) r) (other : Tree) (number : ℕ) where
+    (r : DiskRecord) (d : HasOpened size from tree base super read place txns r) (other : Tree) (number : ℕ) where
   module _ (image : List (List ℕ)) (f : Fields) (whole : Transactions) (began : Began size from number other r image f whole) where
     with-read : BeganWith r from super image read place
-    with-read = d.log.begins image began.begins
+    with-read = (d.journal.log.has image began.begins).began
 
     same-super : f ≡ super
     same-super = began-super size from number other r image f super whole read place began with-read
@@ -78,12 +78,12 @@ module _ (size from : ℕ) (tree : Tree) (base : ℕ) (super : Fields) (read : L
     always-same : Always (StandsByChance (cell_after r from) f size (HasAmpleRoom f whole) other number []) from r
     always-same =
         subst (λ (t : Tree). Always (StandsByChance (cell_after r from) f size (HasAmpleRoom f whole) t number []) from r) (sym same-tree)
-        (subst (λ (n : ℕ). Always (StandsByChance (cell_after r from) f size (HasAmpleRoom f whole) tree n []) from r) same-number (d.keeps.always image f whole began-read))
+        (subst (λ (n : ℕ). Always (StandsByChance (cell_after r from) f size (HasAmpleRoom f whole) tree n []) from r) same-number (d.journal.keeps.always image f whole began-read))
 
   pub keeps-unfinished : KeepsPrefix size from other number [] r
-  keeps-unfinished = record { since = d.log.since; always = λ image f whole began. always-same image f whole began }
+  keeps-unfinished = record { since = d.journal.log.since; always = λ image f whole began. always-same image f whole began }
 
 pub told-unfinished : (size from : ℕ) (tree : Tree) (base : ℕ) (super : Fields) (read : List StreamBlock) (place : Start) (txns : Transactions) (told : Option DiskRecord) (other : Tree) (number : ℕ)
-    → IsReading size base super read place txns → StandsFor (items_after txns) tree → IfSome told (HasJournal (new_journal size from tree base super read place txns)) → IfSome told (KeepsPrefix size from other number [])
+    → IsReading size base super read place txns → StandsFor (items_after txns) tree → IfSome told (HasOpened size from tree base super read place txns) → IfSome told (KeepsPrefix size from other number [])
 told-unfinished size from tree base super read place txns told other number reading stands d =
-    told-map (HasJournal (new_journal size from tree base super read place txns)) (KeepsPrefix size from other number []) told (λ r h. keeps-unfinished size from tree base super read place txns reading stands r h other number) d
+    told-map (HasOpened size from tree base super read place txns) (KeepsPrefix size from other number []) told (λ r h. keeps-unfinished size from tree base super read place txns reading stands r h other number) d

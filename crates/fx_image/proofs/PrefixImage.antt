@@ -1,6 +1,6 @@
 -- What an image stands for in which the journal has a cut stream.
 use Rattle.std.proofs.Common.{◌≡◌, ℕ, zero, suc, ◌+◌, ◌^◌, ◌≤◌, ◌<◌, List, [], ◌∷◌, ◌++◌, length, take, drop, map, refl, sym, subst, ◌∙◌, ap, arith, append_assoc, inl, inr}
-use Rattle.std.specs.Prelude.{Some, slice_get}
+use Rattle.std.specs.Prelude.{None, Some, slice_get}
 use Rattle.std.specs.List.{fold, concat}
 use Rattle.std.proofs.lemmas.List.{length-append, map-append, take-append-drop, length-take}
 use Rattle.std.proofs.Math.Seq.{drop-length}
@@ -24,8 +24,9 @@ use Rattle.fx_history.specs.declared.entry.Entry.{Entry}
 use Rattle.fx_history.specs.History.{tree_at}
 use Rattle.fx_super.specs.Super.{Fields}
 use Rattle.fx_image.specs.Standing.{Transactions, StandsFor, IsImage, HasSessionRoom, HasAmpleRoom, kept, items_after, lists_of, stream_pieces}
-use Rattle.fx_log.specs.Ring.{KeepsStream, as_stream}
-use Rattle.fx_log.specs.Chosen.{ChoosesSuper, next_generation, start_of}
+use Rattle.fx_log.specs.Ring.{as_stream}
+use Rattle.fx_log.specs.Chosen.{start_of}
+use Rattle.fx_supers.specs.Shown.{ShowsCut, ShowsRun}
 use Rattle.fx_image.specs.Prefix.{IsPrefix, HasWholeHistory}
 use Rattle.fx_image.specs.Journal.{Journal, IsJournal}
 
@@ -91,25 +92,32 @@ stores-fewer next k old lists =
 
 -- ---- the image
 
-pub room-left : (f : Fields) (txns now : Transactions) (more k : ℕ) (records : List (List PlainItem)) → lists_of now ≡ lists_of txns ++ take k records → kept (next_generation f) now ≤ kept f txns + more → more ≤ 2 ^ 20
+-- the superblock under another generation
+abbrev pub under : Fields → ℕ → Fields
+under f n = record f { generation = n }
+
+pub room-left : (f : Fields) (n : ℕ) (txns now : Transactions) (more k : ℕ) (records : List (List PlainItem)) → n ≤ f.generation + 1 → lists_of now ≡ lists_of txns ++ take k records → kept f now ≤ kept f txns + more → more ≤ 2 ^ 20
     → next_id_after f.next_id (lists_of txns ++ records) ≤ next_id_after f.next_id (lists_of txns) + more
     → next_store_after f.next_store (lists_of txns ++ records) ≤ next_store_after f.next_store (lists_of txns) + more
-    → HasAmpleRoom f txns → HasSessionRoom (next_generation f) now
-room-left f txns now more k records lists few short ids stores h =
+    → HasAmpleRoom f txns → HasSessionRoom (under f n) now
+room-left f n txns now more k records next lists few short ids stores h =
     let mine : next_id_after f.next_id (lists_of now) ≤ next_id_after f.next_id (lists_of txns) + more =
     omega (arith, ap (next_id_after f.next_id) lists, ids-fewer f.next_id k (lists_of txns) records) in
     let own : next_store_after f.next_store (lists_of now) ≤ next_store_after f.next_store (lists_of txns) + more =
     omega (arith, ap (next_store_after f.next_store) lists, stores-fewer f.next_store k (lists_of txns) records) in
     record {
-      generations = omega (arith, h.generations);
+      generations = omega (arith, next, h.generations);
       sequences = omega (arith, h.sequences);
-      commits = omega (arith, h.commits);
+      commits = omega (arith, few, short, h.commits);
       ids_left = omega (arith, h.ids_left);
       stores_left = omega (arith, h.stores_left);
     }
 
--- An image with the superblock of the next generation, and the first of the closed blocks.
-module _ (j : Journal) (calls : ℕ) (h : IsJournal j calls) (image : List (List ℕ)) (chosen : ChoosesSuper (next_generation j.log.head.super) image) (s : KeepsStream image j.log.head.super j.log.head.read j.log.tail.blocks j.log.tail.settled) where
+-- An image with the superblock that was read, under this generation, and the first of the closed blocks.
+module _ (j : Journal) (calls : ℕ) (h : IsJournal j calls) (image : List (List ℕ)) (n : ℕ) (next : n ≤ j.log.head.super.generation + 1) (shows : ShowsCut j.log image (record { super = under j.log.head.super n; origin = None })) where
+  abbrev s : ShowsRun image j.log.head.super.ring (j.log.head.super.generation + 1) n (start_of j.log.head.super) j.log.head.read j.log.tail.blocks 0 j.log.tail.settled
+  s = shows.run
+
   abbrev last : ℕ
   last = kept j.log.head.super j.opening.txns
 
@@ -142,18 +150,18 @@ module _ (j : Journal) (calls : ℕ) (h : IsJournal j calls) (image : List (List
   lists-now : lists_of now ≡ lists_of j.opening.txns ++ take stopped.0 j.commits.records
   lists-now = map-append (λ (t : ℕ × List PlainItem). t.1) j.opening.txns (numbered last (take stopped.0 j.commits.records)) ∙ ap (λ (w : List (List PlainItem)). lists_of j.opening.txns ++ w) (map-numbered last (take stopped.0 j.commits.records))
 
-  kept-now : kept (next_generation j.log.head.super) now ≡ j.opening.base + stopped.0
+  kept-now : kept (under j.log.head.super n) now ≡ j.opening.base + stopped.0
   kept-now = omega (arith, length-append j.opening.txns (numbered last (take stopped.0 j.commits.records)), length-numbered last (take stopped.0 j.commits.records), length-take stopped.0 j.commits.records, stopped.1.most, h.reading.base_is)
 
-  stands-now : StandsFor (items_after now) (bare (tree_at j.opening.tree j.commits.history (kept (next_generation j.log.head.super) now)))
+  stands-now : StandsFor (items_after now) (bare (tree_at j.opening.tree j.commits.history (kept (under j.log.head.super n) now)))
   stands-now =
       subst (λ (n : ℕ). StandsFor (items_after now) (bare (tree_at j.opening.tree j.commits.history n))) (sym kept-now)
       (subst (λ (lists : List (List PlainItem)). StandsFor (after_all lists) (bare (tree_at j.opening.tree j.commits.history (j.opening.base + stopped.0)))) (sym lists-now)
       (h.replays.stands stopped.0 stopped.1.most))
 
-  image-now : IsImage j.log.size image (next_generation j.log.head.super) now (bare (tree_at j.opening.tree j.commits.history (kept (next_generation j.log.head.super) now)))
+  image-now : IsImage j.log.size image (under j.log.head.super n) now (bare (tree_at j.opening.tree j.commits.history (kept (under j.log.head.super n) now)))
   image-now = record {
-    chosen = chosen;
+    chosen = shows.chosen;
     blocks = h.reading.head.blocks;
     layers = h.reading.layers;
     stream = j.log.head.read ++ as_stream (j.log.head.super.generation + 1) stood;
@@ -168,12 +176,12 @@ module _ (j : Journal) (calls : ℕ) (h : IsJournal j calls) (image : List (List
   -- the settled commits stand there
   marks-stand : j.commits.marks ≤ stopped.0
   marks-stand =
-      let few : length (texts (take j.log.tail.settled j.log.tail.blocks)) ≤ length (texts stood) = texts-fewer j.log.tail.blocks j.log.tail.settled s.count s.least in
+      let few : length (texts (take j.log.tail.settled j.log.tail.blocks)) ≤ length (texts stood) = texts-fewer j.log.tail.blocks j.log.tail.settled s.count (omega (arith, s.least)) in
       let short : length (commits_bytes last (take j.commits.marks j.commits.records)) ≤ length (concat (map text_of stood)) =
       omega (arith, few, h.marked.whole, ap length (texts-are stood), ap (λ (n : ℕ). length (commits_bytes n (take j.commits.marks j.commits.records))) h.reading.base_is) in
       stopped.1.whole j.commits.marks (omega (arith, h.marked.few, h.replays.one_each)) short
 
-  settled-stand : (i : ℕ) (entry : Entry) → slice_get j.commits.history i ≡ Some entry → 1 ≤ entry.settled → entry.number ≤ kept (next_generation j.log.head.super) now
+  settled-stand : (i : ℕ) (entry : Entry) → slice_get j.commits.history i ≡ Some entry → 1 ≤ entry.settled → entry.number ≤ kept (under j.log.head.super n) now
   settled-stand i entry got some =
       let number : entry.number ≡ j.opening.base + i + 1 = h.legal.numbered i entry got in
       let early : i < j.commits.marks = elim (cases_lt i j.commits.marks) [ inl lt ↦ lt | inr late ↦ absurd (omega (arith, some, h.marked.first.after i entry got late)) ] in
@@ -181,26 +189,26 @@ module _ (j : Journal) (calls : ℕ) (h : IsJournal j calls) (image : List (List
 
   pub prefix-at : (m : ℕ) → IsPrefix j.log.size (HasAmpleRoom j.log.head.super j.opening.txns) j.opening.tree j.opening.base j.commits.history m image
   prefix-at m = record {
-    super = next_generation j.log.head.super;
+    super = under j.log.head.super n;
     txns = now;
     least = omega (arith, kept-now);
     most = omega (arith, kept-now, stopped.1.most, h.replays.one_each);
     settled = λ i entry got some by. settled-stand i entry got some;
     image_is = image-now;
-    room = λ ample. room-left j.log.head.super j.opening.txns now (length j.commits.history) stopped.0 j.commits.records lists-now
+    room = λ ample. room-left j.log.head.super n j.opening.txns now (length j.commits.history) stopped.0 j.commits.records next lists-now
         (omega (arith, kept-now, h.reading.base_is, stopped.1.most, h.replays.one_each)) h.few.few h.few.ids h.few.stores ample;
   }
 
   -- where all is settled, the image has all of the history
   pub whole-at : j.log.tail.settled ≡ length j.log.tail.blocks → j.log.tail.text ≡ [] → HasWholeHistory j.log.size j.opening.tree j.opening.base j.commits.history image
   whole-at all none =
-      let count : s.count ≡ length j.log.tail.blocks = omega (arith, s.least, s.most, all) in
+      let count : s.count ≡ length j.log.tail.blocks = omega (arith, s.least, s.within, all) in
       let past : drop s.count j.log.tail.blocks ≡ [] = ap (λ (n : ℕ). drop n j.log.tail.blocks) count ∙ drop-length j.log.tail.blocks in
       let ends : rest ≡ [] = ap (λ (qs : List Queued). texts qs ++ j.log.tail.text) past ∙ none in
-      let every : kept (next_generation j.log.head.super) now ≡ j.opening.base + length j.commits.history = omega (arith, kept-now, stopped.3 ends, h.replays.one_each) in
+      let every : kept (under j.log.head.super n) now ≡ j.opening.base + length j.commits.history = omega (arith, kept-now, stopped.3 ends, h.replays.one_each) in
       record {
-        super = next_generation j.log.head.super;
+        super = under j.log.head.super n;
         txns = now;
         kept_is = every;
-        image_is = subst (λ (n : ℕ). IsImage j.log.size image (next_generation j.log.head.super) now (bare (tree_at j.opening.tree j.commits.history n))) every image-now;
+        image_is = subst (λ (k : ℕ). IsImage j.log.size image (under j.log.head.super n) now (bare (tree_at j.opening.tree j.commits.history k))) every image-now;
       }

@@ -1,5 +1,6 @@
 -- What a mounted disk with a journal leaves now.
-use Rattle.std.proofs.Common.{◌≡◌, ℕ, List, length, sym, subst, arith}
+use Rattle.std.proofs.Common.{◌≡◌, ◌≤◌, ◌+◌, ℕ, List, length, sym, subst, arith, inl, inr}
+use Rattle.std.specs.Prelude.{None}
 use Rattle.fx_disk.specs.Record.{DiskRecord, LeftNow, cell_after, cell_now}
 use Rattle.fx_jblock.specs.declared.Start.{Start}
 use Rattle.fx_journal.specs.declared.stream.StreamBlock.{StreamBlock}
@@ -9,18 +10,18 @@ use Rattle.fx_record.proofs.Fronts.{one_answer}
 use Rattle.fx_super.specs.Super.{Fields}
 use Rattle.fx_disk.specs.Began.{BeganAs}
 use Rattle.fx_log.specs.Chance.{NotByChance}
-use Rattle.fx_log.specs.Chosen.{ChoosesSuper, next_generation}
-use Rattle.fx_log.specs.Log.{HasLog, IsWrittenOut}
-use Rattle.fx_log.specs.Raising.{ChoosesNext}
-use Rattle.fx_log.specs.Ring.{BeganWith, KeepsStream}
-use Rattle.fx_log.proofs.LogCalls.{log-left}
+use Rattle.fx_log.specs.Log.{IsWrittenOut}
+use Rattle.fx_log.specs.Ring.{BeganWith}
+use Rattle.fx_supers.specs.Supers.{SuperCut}
+use Rattle.fx_supers.specs.SessionLog.{KeepsLog}
+use Rattle.fx_supers.specs.Shown.{ShowsCut}
+use Rattle.fx_supers.proofs.LogShown.{shows-log}
 use Rattle.fx_log.proofs.RingClosed.{rules-begun}
 use Rattle.fx_log.proofs.SuperChoice.{one_super, stream_chosen}
 use Rattle.fx_image.specs.Standing.{Transactions, IsImage, HasAmpleRoom, stream_pieces}
 use Rattle.fx_image.specs.Prefix.{HasWholeHistory, Began, KeepsAll}
-use Rattle.fx_image.specs.Journal.{Journal, IsJournal}
-use Rattle.fx_image.proofs.JournalSteps.{log-is}
-use Rattle.fx_image.proofs.PrefixImage.{prefix-at, whole-at}
+use Rattle.fx_image.specs.Journal.{IsMountCut, Journal, IsJournal}
+use Rattle.fx_image.proofs.PrefixImage.{prefix-at, under, whole-at}
 use Rattle.fx_image.proofs.PrefixCalls.{StandsByChance, KeepsNow}
 
 -- What it began as is what was read.
@@ -43,23 +44,32 @@ began-read size from base tree r image f g txns old read place P began with are 
     subst (λ (x : Fields). P x txns) (sym same)
     (subst (P g) (sym (began-txns size from base tree r image g txns old read place (subst (λ (x : Fields). Began size from base tree r image x txns) same began) with are)) here)
 
-module _ (j : Journal) (calls : ℕ) (h : IsJournal j calls) (r : DiskRecord) (d : HasLog j.log r) (next : ChoosesNext j.log.from r) where
-  stream-now : (first left : List (List ℕ)) → BeganAs r j.log.from first → LeftNow r left → NotByChance (cell_after r j.log.from) (cell_now r) j.log.head.super.generation left
-      → ChoosesSuper (next_generation j.log.head.super) left × KeepsStream left j.log.head.super j.log.head.read j.log.tail.blocks j.log.tail.settled
-  stream-now = log-left j.log (log-is j calls h) r d next
+module _ (j : Journal) (calls : ℕ) (h : IsJournal j calls) (r : DiskRecord) (d : KeepsLog j.log r) where
+  -- the superblock that was read, under some generation, and the stream from its start
+  abbrev Shows : List (List ℕ) → Type 0
+  Shows left = (n : ℕ) × (n ≤ j.log.head.super.generation + 1) × ShowsCut j.log left (record { super = under j.log.head.super n; origin = None })
+
+  shows-mount_cut : (left : List (List ℕ)) (cut : SuperCut) → IsMountCut j.log.head.super cut → ShowsCut j.log left cut → Shows left
+  shows-mount_cut left cut is shows = (cut.super.generation, is.most, subst (λ (c : SuperCut). ShowsCut j.log left c) is.same shows)
+
+  shows-now : (first left : List (List ℕ)) → BeganAs r j.log.from first → LeftNow r left → NotByChance (cell_after r j.log.from) (cell_now r) j.log.head.super.generation left → Shows left
+  shows-now first left began is chance = elim (shows-log j.log h.log first r (d.has first began) left is chance) [
+    | inl old ↦ shows-mount_cut left j.log.supers.current h.uncut.current old
+    | inr new ↦ shows-mount_cut left new.0 (h.uncut.coming new.0 new.1) new.2
+  ]
 
   pub keeps-now : KeepsNow j.log.size j.log.from j.opening.tree j.opening.base j.commits.history r
   keeps-now image f txns began left is =
       began-read j.log.size j.log.from j.opening.base j.opening.tree r image f j.log.head.super txns j.opening.txns j.log.head.read j.log.head.place
       (λ g old. StandsByChance (cell_after r j.log.from) g j.log.size (HasAmpleRoom g old) j.opening.tree j.opening.base j.commits.history (cell_now r) (length r.calls) left)
-      began (d.begins image began.begins) h.reading.txns_are
-      (λ chance. let found = stream-now image left began.begins is chance in prefix-at j calls h left found.0 found.1 (length r.calls))
+      began (d.has image began.begins).began h.reading.txns_are
+      (λ chance. let found = shows-now image left began.begins is chance in prefix-at j calls h left found.0 found.1 found.2 (length r.calls))
 
   pub keeps-all : IsWrittenOut j.log.tail → j.log.tail.settled ≡ j.log.tail.written → KeepsAll j.log.size j.log.from j.opening.tree j.opening.base j.commits.history r
   keeps-all out all = record {
     each = λ image f txns began left is.
         began-read j.log.size j.log.from j.opening.base j.opening.tree r image f j.log.head.super txns j.opening.txns j.log.head.read j.log.head.place
         (λ g old. NotByChance (cell_after r j.log.from) (cell_now r) g.generation left → HasWholeHistory j.log.size j.opening.tree j.opening.base j.commits.history left)
-        began (d.begins image began.begins) h.reading.txns_are
-        (λ chance. let found = stream-now image left began.begins is chance in whole-at j calls h left found.0 found.1 (omega (arith, all, out.written)) out.text);
+        began (d.has image began.begins).began h.reading.txns_are
+        (λ chance. let found = shows-now image left began.begins is chance in whole-at j calls h left found.0 found.1 found.2 (omega (arith, all, out.written)) out.text);
   }

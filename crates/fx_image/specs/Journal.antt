@@ -1,6 +1,6 @@
 -- The journal of a mounted disk as plain data: its log, what it began with, and the commits made
 -- since; what it keeps, and what the disk has of it.
-use Rattle.std.specs.Prelude.{◌≡◌, ℕ, ◌+◌, ◌^◌, ◌≤◌, ◌<◌, All, List, [], ◌∷◌, ◌++◌, length, take}
+use Rattle.std.specs.Prelude.{◌≡◌, ℕ, ◌+◌, ◌^◌, ◌≤◌, ◌<◌, All, None, Some, List, [], ◌∷◌, ◌++◌, length, take}
 use Rattle.fx_item.specs.Item.{PlainItem}
 use Rattle.fx_item.specs.Look.{next_id, next_store, next_id_after, next_store_after}
 use Rattle.fx_plain.specs.Tree.{Tree}
@@ -15,8 +15,10 @@ use Rattle.fx_record.specs.Txns.{IsTxns}
 use Rattle.fx_super.specs.Super.{Fields}
 use Rattle.fx_disk.specs.Record.{DiskRecord}
 use Rattle.fx_log.specs.Chosen.{layers_of}
-use Rattle.fx_log.specs.Log.{Log, IsHead, IsTail, HasLog, new_log, closed_log, flushed_log, written_log}
-use Rattle.fx_log.specs.Raising.{ChoosesNext}
+use Rattle.fx_log.specs.Log.{IsHead}
+use Rattle.fx_log.specs.Raising.{ChoosesNext, ChoosesSince}
+use Rattle.fx_supers.specs.Supers.{SuperCut, Supers}
+use Rattle.fx_supers.specs.SessionLog.{IsSessionLog, KeepsLog, SessionLog, bare_session, closed_session, flushed_session, written_session}
 use Rattle.fx_image.specs.Standing.{Transactions, HasSessionRoom, kept, lists_of, stream_pieces}
 use Rattle.fx_image.specs.Replay.{Replays}
 use Rattle.fx_image.specs.Prefix.{KeepsPrefix}
@@ -35,17 +37,17 @@ pub record Commits : Type 0 where
   pub marks : ℕ
 
 pub record Journal : Type 0 where
-  pub log : Log
+  pub log : SessionLog
   pub opening : Opening
   pub commits : Commits
 
 -- ---- what happens to a journal
 
--- Nothing was committed since the mount, and nothing written.
+-- Nothing was committed since the mount, and these are the superblocks.
 abbrev pub new_journal : (size from : ℕ) → Tree → (base : ℕ) →
-    Fields → List StreamBlock → Start → Transactions → Journal
-new_journal size from tree base super read place txns = record {
-  log = new_log size from super read place;
+    Fields → List StreamBlock → Start → Transactions → Supers → Journal
+new_journal size from tree base super read place txns supers = record {
+  log = bare_session size from (record { super = super; read = read; place = place }) supers;
   opening = record { tree = tree; base = base; txns = txns };
   commits = record { history = []; records = []; marks = 0 };
 }
@@ -58,18 +60,18 @@ more_commits c entry items =
 
 abbrev pub with_commit : Journal → Entry → List PlainItem → List Queued → ℕ → List ℕ → Journal
 with_commit j entry items closed chain text = record j {
-  log = closed_log j.log closed chain text;
+  log = closed_session j.log closed chain text;
   commits = more_commits j.commits entry items;
 }
 
 -- The unfinished block is closed as it is, where it holds bytes: further blocks, the chain after
 -- them, and the record bytes that are left.
 abbrev pub with_closed : Journal → List Queued → ℕ → List ℕ → Journal
-with_closed j closed chain text = record j { log = closed_log j.log closed chain text }
+with_closed j closed chain text = record j { log = closed_session j.log closed chain text }
 
 -- One more block is written.
 abbrev pub with_written : Journal → Journal
-with_written j = record j { log = written_log j.log }
+with_written j = record j { log = written_session j.log }
 
 -- The disk was flushed, by the last of so many calls, when all was written: each commit is settled.
 abbrev pub settled_commits : ℕ → Commits → Commits
@@ -78,7 +80,7 @@ settled_commits calls c =
 
 abbrev pub with_settled : ℕ → Journal → Journal
 with_settled calls j =
-    record j { log = flushed_log j.log; commits = settled_commits calls j.commits }
+    record j { log = flushed_session j.log; commits = settled_commits calls j.commits }
 
 -- ---- what a journal keeps
 
@@ -115,11 +117,25 @@ pub record AreFew (super : Fields) (txns : Transactions) (history : List Entry)
   pub stores : next_store_after super.next_store (lists_of txns ++ records)
       ≤ next_store_after super.next_store (lists_of txns) + length history
 
+-- The superblock is the one that was read, but for its generation, which is at most one greater.
+pub record IsMountCut (f : Fields) (cut : SuperCut) : Type 0 where
+  pub same : cut ≡ record {
+    super = record f { generation = cut.super.generation };
+    origin = None;
+  }
+  pub most : cut.super.generation ≤ f.generation + 1
+
+-- No checkpoint was made since the mount.
+pub record IsUncut (f : Fields) (supers : Supers) : Type 0 where
+  pub current : IsMountCut f supers.current
+  pub coming : (cut : SuperCut) → supers.coming ≡ Some cut → IsMountCut f cut
+
 -- The journal after so many calls of the disk.
 pub record IsJournal (j : Journal) (calls : ℕ) : Type 0 where
   pub reading : IsReading j.log.size j.opening.base
       j.log.head.super j.log.head.read j.log.head.place j.opening.txns
-  pub tail : IsTail j.log.head j.log.tail
+  pub log : IsSessionLog j.log
+  pub uncut : IsUncut j.log.head.super j.log.supers
   pub records : AreRecords j.opening.base j.log.tail.blocks j.log.tail.text j.commits.records
   pub marked : AreMarked calls j.opening.base j.log.tail.blocks j.log.tail.settled
       j.commits.history j.commits.records j.commits.marks
@@ -157,13 +173,24 @@ commit_bytes entry items = record_bytes (TransactionRecord entry.number items)
 
 -- ---- what the disk has of it
 
--- This record of the disk has the journal's log, and at every moment since the mount every image
--- left that is not there by chance stands for a prefix of the history.
+-- This record of the disk has the journal's log. At every moment since the mount every image left
+-- that is not there by chance has the superblock that was read, or that of the next generation, and
+-- stands for a prefix of the history.
 pub record HasJournal (j : Journal) (r : DiskRecord) : Type 0 where
-  pub log : HasLog j.log r
+  pub log : KeepsLog j.log r
+  pub chooses : ChoosesSince j.log.from r
   pub keeps : KeepsPrefix j.log.size j.log.from j.opening.tree j.opening.base j.commits.history r
 
 -- And every image left now has the superblock of the next generation.
 pub record IsOnDisk (j : Journal) (r : DiskRecord) : Type 0 where
   pub journal : HasJournal j r
   pub next : ChoosesNext j.log.from r
+
+-- The same of a disk that is being mounted, whether its superblock was raised yet or not.
+pub record HasOpened (size from : ℕ) (tree : Tree) (base : ℕ) (super : Fields)
+    (read : List StreamBlock) (place : Start) (txns : Transactions) (r : DiskRecord) : Type 0 where
+  pub supers : Supers
+  pub log : IsSessionLog
+      (bare_session size from (record { super = super; read = read; place = place }) supers)
+  pub uncut : IsUncut super supers
+  pub journal : HasJournal (new_journal size from tree base super read place txns supers) r

@@ -3,11 +3,7 @@ pub mod SuperCalls
 pub mod SuperWrites
 pub mod SuperTold
 pub mod RingPlaces
-pub mod RingCalls
 pub mod RingBegan
 pub mod RingClosed
 pub mod StreamNext
-pub mod StreamLeft
-pub mod LogCalls
-pub mod LogRaised
-pub mod LogRing
+pub mod LogHeads

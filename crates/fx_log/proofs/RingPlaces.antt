@@ -1,15 +1,11 @@
 -- Where the blocks of a ring stand: each in a place of its own.
-use Rattle.std.proofs.Common.{◌≡◌, ℕ, zero, suc, ◌+◌, ◌*◌, ◌/◌, ◌%◌, ◌-◌, ◌^◌, ◌<◌, ⊎_elim, List, [], ◌∷◌, ◌++◌, length, drop, sym, ◌∙◌, ap, arith}
+use Rattle.std.proofs.Common.{◌≡◌, ℕ, zero, suc, ◌+◌, ◌*◌, ◌/◌, ◌%◌, ◌-◌, ◌<◌, ⊎_elim, List, [], ◌∷◌, ◌++◌, length, drop, sym, ◌∙◌, ap, arith}
 use Rattle.std.specs.Prelude.{Some, slice_get}
 use Rattle.std.proofs.lemmas.Bool.{cases_lt}
 use Rattle.std.proofs.lemmas.Nat.{div-add-mod', mod-mul-add}
-use Rattle.std.proofs.lemmas.Option.{same_Some, slice_get_within}
+use Rattle.std.proofs.lemmas.Option.{same_Some}
 use Rattle.std.proofs.Math.Nat.{add-mod_right}
-use Rattle.fx_jblock.specs.declared.Start.{Start}
-use Rattle.fx_super.specs.Super.{Fields}
-use Rattle.fx_journal.specs.declared.stream.StreamBlock.{StreamBlock}
 use Rattle.fx_journal.specs.Ring.{Queued, IsLinked, number}
-use Rattle.fx_log.specs.Ring.{place_in, AreClosed}
 
 -- a number less than the ring's size further on has another place
 further : (ring n d : ℕ) → d < ring → (n + d) % ring ≡ n % ring → d ≡ 0
@@ -60,17 +56,3 @@ pub sequence-linked : (epoch n : ℕ) (blocks : List Queued) (chain i : ℕ) (q 
 sequence-linked epoch n [] chain i q linked e = absurd (cc)
 sequence-linked epoch n (p ∷ ps) chain zero q linked e = ap (λ (x : Queued). x.sequence) (sym (same_Some p q e)) ∙ linked.0 ∙ ap number (omega arith)
 sequence-linked epoch n (p ∷ ps) chain (suc i) q linked e = sequence-linked epoch (n + 1) ps chain i q linked.2 e ∙ ap number (omega arith)
-
-module _ (f : Fields) (read : List StreamBlock) (place : Start) (blocks : List Queued) (chain : ℕ) (closed : AreClosed f read place blocks chain) where
-  pub sequence-is : (i : ℕ) (q : Queued) → slice_get blocks i ≡ Some q → q.sequence ≡ place.sequence + i
-  sequence-is i q e =
-      let within : i < length blocks = slice_get_within blocks i q e in
-      let below : place.sequence + i < 2 ^ 64 = omega (arith, within, closed.low, closed.room) in
-      sequence-linked (f.generation + 1) place.sequence blocks chain i q closed.linked e ∙ omega (arith, below)
-
-  -- blocks in one place are one block
-  pub apart : (i k : ℕ) (p q : Queued) → slice_get blocks i ≡ Some p → slice_get blocks k ≡ Some q → place_in f.ring p ≡ place_in f.ring q → i ≡ k
-  apart i k p q here there e =
-      let mods : p.sequence % f.ring ≡ q.sequence % f.ring = omega (arith, e) in
-      same_place f.ring place.sequence i k (omega (arith, slice_get_within blocks i p here, closed.room)) (omega (arith, slice_get_within blocks k q there, closed.room))
-      (ap (λ (n : ℕ). n % f.ring) (sym (sequence-is i p here)) ∙ mods ∙ ap (λ (n : ℕ). n % f.ring) (sequence-is k q there))

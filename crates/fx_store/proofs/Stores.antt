@@ -36,6 +36,8 @@ use Rattle.fx_log.specs.Ring.{HasRecords}
 use Rattle.fx_image.specs.Standing.{Transactions, StandsFor, items_after, lists_of}
 use Rattle.fx_image.specs.Journal.{Journal, IsJournal, IsOnDisk, commit_bytes, with_commit, with_closed, with_written, with_settled}
 use Rattle.fx_log.specs.Log.{IsWrittenOut}
+use Rattle.fx_supers.specs.Supers.{Origin, SuperCut}
+use Rattle.fx_supers.specs.SessionLog.{HasPlacesFrom}
 use Rattle.fx_image.specs.Prefix.{KeepsPrefix, KeepsAll}
 use Rattle.fx_log.specs.Raising.{ChoosesSince, ChoosesNext}
 use Rattle.fx_image.specs.Mounted.{IsMounted}
@@ -60,9 +62,13 @@ texts-most [] h = omega arith
 texts-most (q ∷ qs) h =
     omega (arith, length-append q.text (texts qs), (All-head HasRecords q qs h).room, texts-most qs (All-tail HasRecords q qs h))
 
+-- no checkpoint was made, so all blocks have their places from the start that the mount found
+room-uncut : (j : Journal) (calls : ℕ) → IsJournal j calls → length j.log.head.read + length j.log.tail.blocks ≤ j.log.head.super.ring
+room-uncut j calls h = subst (λ (from : Origin). HasPlacesFrom j.log.head j.log.tail.blocks from) (ap (λ (c : SuperCut). c.origin) h.uncut.current.same) h.log.places
+
 pub commits-few : (j : Journal) (calls : ℕ) → IsJournal j calls → length j.log.tail.text < RECORD_BYTES → length j.commits.history < 2 ^ 20
 commits-few j calls h short =
-    omega (arith, ap length h.records.joined, length-append (texts j.log.tail.blocks) j.log.tail.text, texts-most j.log.tail.blocks h.tail.closed.records, h.tail.closed.room, h.reading.head.rules.ring_most, least_length j.opening.base j.commits.records, h.replays.one_each, short)
+    omega (arith, ap length h.records.joined, length-append (texts j.log.tail.blocks) j.log.tail.text, texts-most j.log.tail.blocks h.log.closed.records, room-uncut j calls h, h.reading.head.rules.ring_most, least_length j.opening.base j.commits.records, h.replays.one_each, short)
 
 -- ---- the ring and its buffers
 
@@ -320,7 +326,7 @@ module _ {seen : DiskSeen} {from : ℕ} {s : Session} {ring : RingState} {pool :
       module _ (was_good : good ≡ true) (none : ring.queued + begun ring.text ≡ 0) where
         out : IsWrittenOut j.log.tail
         out = record {
-          written = omega (arith, none, h.mounted.ring_is.queue.count, length-drop j.log.tail.written j.log.tail.blocks, is_journal.tail.most);
+          written = omega (arith, none, h.mounted.ring_is.queue.count, length-drop j.log.tail.written j.log.tail.blocks, is_journal.log.most);
           text = sym h.mounted.ring_is.text ∙ none-begun ring.text (omega (arith, none));
         }
 
@@ -402,7 +408,7 @@ module _ {seen : DiskSeen} {from : ℕ} {s : Session} {ring : RingState} {pool :
   pub store-images : IfSome seen.told (KeepsImages seen.size from (txns_of s.txns) s.base s.history.items)
   store-images = told-map (IsOnDisk j) (KeepsImages seen.size from (txns_of s.txns) s.base s.history.items) seen.told
       (λ r d. record {
-        super = subst (λ (n : ℕ). ChoosesSince n r) h.from_is d.journal.log.chooses;
+        super = subst (λ (n : ℕ). ChoosesSince n r) h.from_is d.journal.chooses;
         next = subst (λ (n : ℕ). ChoosesNext n r) h.from_is d.next;
         prefix = λ opening opens.
             subst (λ (n : ℕ). KeepsPrefix n from opening s.base s.history.items r) h.size_is

@@ -14,10 +14,11 @@ use Rattle.fx_journal.specs.Stream.{IsStream}
 use Rattle.fx_journal.specs.declared.stream.StreamBlock.{StreamBlock}
 use Rattle.fx_pool.specs.Region.{IsSound, Region}
 use Rattle.fx_record.specs.Txns.{txns_of}
-use Rattle.fx_log.specs.Chosen.{start_of}
+use Rattle.fx_log.specs.Chosen.{next_generation, start_of}
 use Rattle.fx_image.specs.Standing.{StandsFor, Transactions, items_after, lists_of}
-use Rattle.fx_image.specs.Journal.{HasJournal, IsReading, Journal, new_journal}
-use Rattle.fx_log.specs.Raising.{ChoosesSince}
+use Rattle.fx_image.specs.Journal.{HasJournal, HasOpened, IsReading, Journal, new_journal}
+use Rattle.fx_log.specs.Raising.{ChoosesNext, ChoosesSince}
+use Rattle.fx_supers.specs.Supers.{Supers, only_supers}
 use Rattle.fx_store.specs.Inside.{HasBuffers}
 use Rattle.fx_store.specs.declared.opening.TheConstants.{MAX_OPENING_NODES}
 use Rattle.fx_store.specs.Mounted.{State}
@@ -100,10 +101,10 @@ read_from c blocks = record {
   txns = txns_of c.txns;
 }
 
--- the journal that goes on from it
-abbrev pub journal_of : (size from : ℕ) → Fields → Read → Journal
-journal_of size from f read =
-    new_journal size from read.tree read.base f read.blocks read.place read.txns
+-- the journal that goes on from it, with these superblocks
+abbrev pub journal_of : (size from : ℕ) → Fields → Read → Supers → Journal
+journal_of size from f read supers =
+    new_journal size from read.tree read.base f read.blocks read.place read.txns supers
 
 -- This was read of a disk of so many blocks with that superblock, and it fits together.
 pub record FitsTogether (size : ℕ) (f : Fields) (read : Read) : Type 0 where
@@ -121,7 +122,16 @@ IsOn f read r = IsStream r.contents f.ring f.generation (start_of f) read.blocks
 pub record Raises (before after : DiskSeen) (f : Fields) : Type 0 where
   pub since : IfSome after.told (ChoosesSince before.calls)
   pub journal : (read : Read) → FitsTogether before.size f read → IfSome before.told (IsOn f read)
-      → IfSome after.told (HasJournal (journal_of before.size before.calls f read))
+      → IfSome after.told (HasOpened before.size before.calls read.tree read.base f
+      read.blocks read.place read.txns)
+
+-- What it has once that is done: the superblock of the next generation is chosen, which stands in
+-- this one of the two blocks, and the journal goes on from what was read.
+pub record HasRaised (before after : DiskSeen) (f : Fields) (slot : Which) : Type 0 where
+  pub next : IfSome after.told (ChoosesNext before.calls)
+  pub journal : (read : Read) → FitsTogether before.size f read → IfSome before.told (IsOn f read)
+      → IfSome after.told (HasJournal (journal_of before.size before.calls f read
+      (only_supers (next_generation f) slot)))
 
 -- So many calls were made and were good; or one failed, that which was last asked for, and no more
 -- were made.
@@ -154,6 +164,6 @@ ring_of f read = record {
 -- All memory that a store begins with is there.
 pub record IsPrepared (size : ℕ) (f : Fields) (read : Read)
     (s : Session) (ring : RingState) (pool : Region) : Type 0 where
-  pub session : (from : ℕ) → IsSessionOf (journal_of size from f read) s
+  pub session : (from : ℕ) (supers : Supers) → IsSessionOf (journal_of size from f read supers) s
   pub ring_is : ring ≡ ring_of f read
   pub buffers : HasBuffers ring pool

@@ -1,11 +1,10 @@
 //! Raising the generation of the superblock.
 ghost use Rattle.std.specs.Prelude.{◌+◌, ◌≤◌, OnOk, is_ok};
-ghost use Rattle.std.specs.Option.{IfSome};
+ghost use Rattle.fx_super.specs.Chosen.{other};
 ghost use Rattle.fx_super.specs.Super.{Fields, IsSuper, KeepsRules, fields_of};
 ghost use Rattle.fx_super.specs.declared.superblock.TheConstants.{MAX_GENERATION};
 ghost use Rattle.fx_log.specs.Chosen.{next_generation};
-ghost use Rattle.fx_log.specs.Raising.{ChoosesNext};
-ghost use Rattle.fx_store.specs.Opening.{MakesCalls, Raises, TellsChosen};
+ghost use Rattle.fx_store.specs.Opening.{HasRaised, MakesCalls, Raises, TellsChosen};
 
 use crate::opening::Found;
 use fx_base::{BLOCK_BYTES, zero_block};
@@ -24,7 +23,7 @@ fn put_super<D: Disk>(
         TellsChosen (D.seen disk.old) chosen f → Raises (D.seen disk.old) (D.seen disk.new) f }
     ensures next { OnOk result ((f : Fields) → IsSuper block.now (next_generation f) →
         TellsChosen (D.seen disk.old) chosen f →
-        IfSome (D.seen disk.new).told (ChoosesNext (D.seen disk.old).calls)) }
+        HasRaised (D.seen disk.old) (D.seen disk.new) f (other chosen)) }
     ensures two { MakesCalls 2 (D.seen disk.old) (D.seen disk.new) (is_ok result) }
 {
     disk.write(chosen.other().block() as u32, block)?;
@@ -38,8 +37,8 @@ pub(crate) fn raise<D: Disk>(disk: &mut D, found: &Found) -> Result<(), DiskFail
     requires room { found.now.sup.generation + 1 ≤ MAX_GENERATION }
     requires chosen { TellsChosen (D.seen disk.old) found.now.chosen (fields_of found.now.sup) }
     ensures raises { Raises (D.seen disk.old) (D.seen disk.new) (fields_of found.now.sup) }
-    ensures next { OnOk result
-        (IfSome (D.seen disk.new).told (ChoosesNext (D.seen disk.old).calls)) }
+    ensures next { OnOk result (HasRaised (D.seen disk.old) (D.seen disk.new)
+        (fields_of found.now.sup) (other found.now.chosen)) }
     ensures two { MakesCalls 2 (D.seen disk.old) (D.seen disk.new) (is_ok result) }
 {
     let next = Super {

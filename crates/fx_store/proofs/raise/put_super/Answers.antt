@@ -4,10 +4,9 @@ use Rattle.fx_disk.specs.Seen.{DiskSeen, HasFlushed, HasWritten}
 use Rattle.fx_super.specs.Super.{Fields, IsSuper}
 use Rattle.fx_super.specs.Chosen.{block_number, other}
 use Rattle.fx_log.specs.Chosen.{next_generation}
-use Rattle.fx_log.specs.Raising.{ChoosesNext}
 use Rattle.fx_disk.proofs.Made.{on_ok-from}
-use Rattle.fx_store.specs.Opening.{TellsChosen}
-use Rattle.fx_store.proofs.NewStores.{next-chosen, raises-flushed, raises-written}
+use Rattle.fx_store.specs.Opening.{HasRaised, TellsChosen}
+use Rattle.fx_store.proofs.NewStores.{is-raised, raises-flushed, raises-written}
 use Rattle.fx_store.proofs.raise.put_super.Goals as goal
 
 pub returns-in_err-write-clause-raises : goal.returns-in_err-write-clause-raises
@@ -32,7 +31,7 @@ returns-clause-next g c =
     let old : DiskSeen = g.D.Disk.seen c.args.disk.now in
     let mid : DiskSeen = g.D.Disk.seen c.write.new.self in
     let new : DiskSeen = g.D.Disk.seen c.flush.new.self in
-    on_ok-from c.flush.result ((f : Fields) → IsSuper c.args.block.now (next_generation f) → TellsChosen old c.args.chosen f → IfSome new.told (ChoosesNext old.calls))
-    (λ e f next chosen. next-chosen old mid f c.args.chosen c.args.block.now (g.met.D.Disk.told_ok c.args.disk.now) next chosen new
+    on_ok-from c.flush.result ((f : Fields) → IsSuper c.args.block.now (next_generation f) → TellsChosen old c.args.chosen f → HasRaised old new f (other c.args.chosen))
+    (λ e f next chosen. is-raised old mid f c.args.chosen c.args.block.now (g.met.D.Disk.told_ok c.args.disk.now) next chosen new
     (subst (λ (k : ℕ). HasWritten old mid k c.args.block.now true) (c.block.ensures ∙ ap block_number c.other.ensures) c.in_ok-write.ensures.written)
     (subst (λ (good : Bool). HasFlushed mid new good) e c.flush.ensures.flushed))

@@ -1,0 +1,14 @@
+pub mod CellMarks
+pub mod ClosedBlocks
+pub mod BlockSequence
+pub mod SupersHeld
+pub mod RingHeld
+pub mod ShownFromBlock
+pub mod ShownFromMount
+pub mod LogStarts
+pub mod LogKept
+pub mod LogHeld
+pub mod LogShown
+pub mod LogSeen
+pub mod RingInMemory
+pub mod RingFreed
