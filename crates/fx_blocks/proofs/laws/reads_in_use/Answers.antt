@@ -1,8 +1,0 @@
-use Rattle.fx_blocks.proofs.ReadsPut.{reads_put, reads_stated}
-use Rattle.fx_blocks.proofs.laws.reads_in_use.Goals as goal
-
-pub returns-clause-put : goal.returns-clause-put
-returns-clause-put c = reads_put
-
-pub returns-clause-stated : goal.returns-clause-stated
-returns-clause-stated c = reads_stated

@@ -1,0 +1,13 @@
+pub mod PointsUpTo
+pub mod CutPoints
+pub mod PrefixNow
+pub mod LiftedCalls
+pub mod MarksMade
+pub mod JoinedEvents
+pub mod JoinedCommit
+pub mod JoinedSteps
+pub mod Dropping
+pub mod OneImage
+pub mod MountedState
+pub mod LiveAllocated
+pub mod ToldBlocks

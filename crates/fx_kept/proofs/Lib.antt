@@ -1,0 +1,11 @@
+pub mod KeptExists
+pub mod KeptContents
+pub mod LiveBlocks
+pub mod VerifyKept
+pub mod AnyFirst
+pub mod FoldedTxns
+pub mod NamedImages
+pub mod KeptAtMount
+pub mod WorkedRow
+pub mod Opened
+pub mod NamesAlone

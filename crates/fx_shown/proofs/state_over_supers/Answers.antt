@@ -1,0 +1,27 @@
+use Rattle.fx_shown.proofs.StateKept.{bases-moved, later-now, state-finished, state-moved, state-put}
+use Rattle.fx_shown.proofs.TxnsKept.{bases-finished, bases-put, txns-finished, txns-put}
+use Rattle.fx_shown.proofs.state_over_supers.Goals as goal
+
+pub returns-clause-put : goal.returns-clause-put
+returns-clause-put c = λ s log t marks cut ok h new. record {
+  has = txns-put log t h.has cut ok;
+  state = state-put s log t marks h.state cut ok;
+  bases = bases-put s log t cut ok h.bases new;
+}
+
+pub returns-clause-finished : goal.returns-clause-finished
+returns-clause-finished c = λ s log t marks cut h is coming. record {
+  has = txns-finished log t h.has cut;
+  state = state-finished s log t marks h.state is cut;
+  bases = bases-finished s log t cut h.bases coming;
+}
+
+pub returns-clause-moved : goal.returns-clause-moved
+returns-clause-moved c = λ s later log t marks h goes settled. record {
+  has = h.has;
+  state = state-moved s later log t marks h.state goes.base goes.txns settled;
+  bases = bases-moved s later log t h.bases goes.firm;
+}
+
+pub returns-clause-later : goal.returns-clause-later
+returns-clause-later c = λ s log t cut has none origin base firm. later-now s log t cut has none origin base firm

@@ -1,0 +1,5 @@
+pub mod Live
+pub mod Uses
+pub mod Events
+pub mod Parts
+pub mod Layers
