@@ -1,0 +1,5 @@
+pub mod Halves
+pub mod Seen
+pub mod BadNodes
+pub mod Counted
+pub mod BadBlocks
