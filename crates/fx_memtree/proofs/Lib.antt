@@ -1,0 +1,9 @@
+pub mod Attributes
+pub mod CutMarks
+pub mod NodeRows
+pub mod Taken
+pub mod Sought
+pub mod CarriedTree
+pub mod Placed
+pub mod Gathered
+pub mod MoveRows

@@ -1,0 +1,4 @@
+mod Answered
+mod CutNumbers
+mod Covers
+mod Gains

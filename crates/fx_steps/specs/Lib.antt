@@ -1,0 +1,6 @@
+pub mod Refusals
+pub mod Moved
+pub mod Rows
+pub mod Groups
+pub mod Needs
+pub mod Changes
