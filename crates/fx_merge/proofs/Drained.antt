@@ -13,7 +13,7 @@ use Rattle.fx_item.specs.declared.item.Item.{Item}
 use Rattle.fx_item.specs.declared.look.LookFault.{LookFault}
 use Rattle.fx_merge.specs.Cursor.{says_all}
 use Rattle.fx_merge.specs.Merge.{MergeState, IsOnward, after_item}
-use Rattle.fx_merge.specs.Run.{IsMerged}
+use Rattle.fx_merge.specs.Run.{IsMerged, HasMoved, IsAtEnd}
 use Rattle.fx_item.proofs.PlaceOrder.{not_both, below_then, upto_upto, below_upto, upto_itself, either}
 use Rattle.fx_item.proofs.Covered.{entry_at, lies_covers, before_not, behind_not}
 
@@ -35,6 +35,7 @@ pub record Drained (old s : MergeState) (xs : List PlainItem) : Type 0 where
   pub done : (i : ℕ) (x : PlainItem) → slice_get xs i ≡ Some x → Upto (ends x.key) s.place
   pub same : (p : Point) → Upto old.place (at p) → Below (at p) s.place → says xs p ≡ said_in old p
   pub begun : ((s.place ≡ old.place) × (xs ≡ [])) ⊎ (s.started ≡ true)
+  pub upto : Upto old.place s.place
 
 says_append : (xs ys : List PlainItem) (p : Point) → says (xs ++ ys) p ≡ or_older (says xs p) (says ys p)
 says_append [] ys p = refl
@@ -51,6 +52,7 @@ drained_none s = record {
   done = λ i x e. absurd (let f : None ≡ Some x = e in cc);
   same = λ p u b. absurd (not_both b u);
   begun = inl (refl, refl);
+  upto = upto_itself s.place;
 }
 
 module _ (old s : MergeState) (xs : List PlainItem) (w : Drained old s xs) where
@@ -128,6 +130,7 @@ module _ (old s : MergeState) (xs : List PlainItem) (w : Drained old s xs) where
         | inr q ↦ older p up q
       ];
       begun = inr b;
+      upto = subst (Upto old.place) (sym e) (upto_upto w.upto (below_upto found.reaches));
     }
 
 -- ---- what a round of the loop gives
@@ -143,3 +146,23 @@ drain_more old s new xs ys w got f go item e n q =
     subst (Drained old new) (sym (ap (map item_of) q ∙ map-append item_of xs (item ∷ [])))
     (drained_more old s (map item_of xs) w (item_of item) (subst (λ o. FindsFrom (says_all s.levels) s.place (option_map item_of o)) e f) (subst (λ o. IsOnward s (option_map item_of o)) e go)
     new (ap (λ x. x.levels) m) (ap (λ x. x.lacks) m) (ap (λ x. x.place) m) (ap (λ x. x.started) m))
+
+-- ---- where the merge is afterwards
+
+module _ (old s : MergeState) (xs : List PlainItem) (w : Drained old s xs) where
+  drained_moved : HasMoved old s
+  drained_moved = record { levels = w.levels; lacks = w.lacks; upto = w.upto }
+
+  pub moved_fault : (new : MergeState) → new ≡ s → HasMoved old new
+  moved_fault new e = subst (HasMoved old) (sym e) drained_moved
+
+  pub moved_end : (got : Option Item) (new : MergeState) → new ≡ after_item s (option_map item_of got) → FindsFrom (says_all s.levels) s.place (option_map item_of got) → got ≡ None → IsAtEnd old new
+  moved_end got new n f e =
+      subst (IsAtEnd old) (sym (n ∙ ap (λ o. after_item s (option_map item_of o)) e))
+      (record { moved = drained_moved; rest = subst (λ o. FindsFrom (says_all s.levels) s.place (option_map item_of o)) e f })
+
+  pub moved_item : (got : Option Item) (new : MergeState) → new ≡ after_item s (option_map item_of got) → FindsFrom (says_all s.levels) s.place (option_map item_of got) → (item : Item) → got ≡ Some item → HasMoved old new
+  moved_item got new n f item e =
+      let g : IsFirstFrom (says_all s.levels) s.place (item_of item) = subst (λ o. FindsFrom (says_all s.levels) s.place (option_map item_of o)) e f in
+      subst (HasMoved old) (sym (n ∙ ap (λ o. after_item s (option_map item_of o)) e))
+      (record { levels = w.levels; lacks = w.lacks; upto = upto_upto w.upto (below_upto g.reaches) })

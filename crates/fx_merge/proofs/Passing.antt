@@ -9,6 +9,7 @@ use Rattle.fx_item.specs.declared.item.Item.{Item}
 use Rattle.fx_item.specs.declared.look.LookFault.{LookFault}
 use Rattle.fx_merge.specs.Cursor.{says_all}
 use Rattle.fx_merge.specs.Merge.{MergeState, IsOnward, after_item}
+use Rattle.fx_merge.specs.Run.{HasMoved, HasPassed, IsAtEnd, IsBehind}
 use Rattle.fx_item.proofs.PlaceOrder.{not_both, upto_then, upto_upto, below_upto, upto_itself, either}
 use Rattle.fx_item.proofs.Covered.{entry_at, lies_covers, covers_upto}
 
@@ -105,3 +106,21 @@ module _ (old s : MergeState) (w : Skipped old s) (got : Option Item) (f : Finds
   loop_more new k n =
       let m : new ≡ after_item s (Some (item_of item)) = n ∙ ap (λ o. after_item s (option_map item_of o)) e in
       skipped_more old s w (item_of item) f_item go_item new (sym test ∙ k) (ap (λ x. x.levels) m) (ap (λ x. x.lacks) m) (ap (λ x. x.place) m) (ap (λ x. x.started) m)
+
+-- ---- where the merge is afterwards
+
+module _ (old s : MergeState) (w : Skipped old s) where
+  skipped_moved : HasMoved old s
+  skipped_moved = record { levels = w.levels; lacks = w.lacks; upto = w.upto }
+
+  pub passed_fault : (new : MergeState) → new ≡ s → HasPassed old new
+  passed_fault new e = subst (HasPassed old) (sym e) (record { moved = skipped_moved; clear = w.clear })
+
+  module _ (got : Option Item) (new : MergeState) (n : new ≡ after_item s (option_map item_of got)) where
+    pub passed_end : FindsFrom (says_all s.levels) s.place (option_map item_of got) → got ≡ None → IsAtEnd old new
+    passed_end f e =
+        subst (IsAtEnd old) (sym (n ∙ ap (λ o. after_item s (option_map item_of o)) e))
+        (record { moved = skipped_moved; rest = subst (λ o. FindsFrom (says_all s.levels) s.place (option_map item_of o)) e f })
+
+    pub passed_item : (item : Item) → got ≡ Some item → new ≡ after_item old (Some (item_of item))
+    passed_item item e = n ∙ ap (λ o. after_item s (option_map item_of o)) e ∙ (λ i. after_item (record s { levels = w.levels i; lacks = w.lacks i }) (Some (item_of item))) ∙ refl

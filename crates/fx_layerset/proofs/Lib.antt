@@ -1,0 +1,4 @@
+pub mod Newest
+pub mod Spoken
+pub mod Replaced
+pub mod Shared
