@@ -4,3 +4,5 @@ pub mod Runs
 pub mod SoFar
 pub mod Rows
 pub mod Pieces
+pub mod Patched
+pub mod Filed

@@ -1,11 +1,15 @@
 //! The items that say where blocks of a file lie.
-ghost use Rattle.std.specs.Prelude.{◌≡◌, ◌↔◌, ◌+◌, ◌^◌, ◌<◌, ◌≤◌, length, map, All, IfOk, OnOk, IsTrue};
+ghost use Rattle.std.specs.Prelude.{◌≡◌, ◌↔◌, ◌+◌, ◌^◌, ◌<◌, ◌≤◌, length, map, option_map, All, IfOk, IfSome, OnOk, IsTrue};
 ghost use Rattle.fx_item.specs.Item.{IsItem, item_of, items_of};
 ghost use Rattle.fx_item.specs.declared.item.TheConstants.{MAX_DEVICE_BLOCKS, MAX_EXTENT_BLOCKS, MAX_FILE_BLOCKS};
+ghost use Rattle.fx_contents.specs.Files.{blocks_for};
+ghost use Rattle.fx_extent.specs.Listed.{gone_item};
+ghost use Rattle.fx_plain.specs.declared.contents.TheConstants.{MAX_FILE};
 ghost use Rattle.fx_extent.specs.Staged.{AreExtentsOf, AreInPlaces, IsLongestRun, nth_block, run_item};
 
-use fx_base::List;
+use fx_base::{BLOCK_BYTES, List};
 use fx_item::{Checksums, Item, Items, Key, LockKey, MAX_EXTENT_BLOCKS, Value};
+use fx_plain::MAX_FILE;
 use std::alloc::{AllocError, Global};
 
 /// A new block of a file: its place in the file, its block of the device, and the sum of its bytes.
@@ -33,6 +37,29 @@ pub fn extents(alloc: Global, at: LockKey, written: &[NewBlock]) -> Result<Items
         rest = after;
     }
     Ok(Items::new(items))
+}
+
+/// The item that says that the places of a file from one size on, up to another, have no block any more;
+/// none where no block begins between them.
+pub fn taken_away(at: LockKey, size: usize, len: usize) -> Option<Item>
+    requires { len ≤ MAX_FILE }
+    ensures item { option_map item_of result ≡ gone_item at (blocks_for size) (blocks_for len) }
+    ensures good { IfSome result (λ item. IsItem (item_of item)) }
+{
+    let from = size.div_ceil(BLOCK_BYTES);
+    let to = len.div_ceil(BLOCK_BYTES);
+    if from >= to {
+        return None;
+    }
+    Some(Item {
+        key: Key::Extent {
+            store: at.store,
+            id: at.id,
+            start: from as u32,
+            end: to as u32,
+        },
+        value: Value::Gone,
+    })
 }
 
 /// How many of the first blocks follow each other, at most 32.

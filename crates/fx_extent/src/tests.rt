@@ -89,21 +89,72 @@ fn holes_have_no_block(rt: HostRuntime) -> Result<(), AllocError> {
 }
 
 #[test]
-fn bytes_of_blocks(rt: HostRuntime) -> Result<(), AllocError> {
-    // The text `xy` over the end of a block.
+fn a_text_over_the_end_of_a_block(rt: HostRuntime) -> Result<(), AllocError> {
     let blocks = covered(4_095, b"xy");
     assert!(rt; blocks.start == 0 && blocks.end == 2);
     assert!(rt; is_partly_covered(4_095, b"xy", 0) && is_partly_covered(4_095, b"xy", 1));
     let mut first = [0; 4096];
-    let mut second = [7; 4096];
-    patch(&mut first, 0, 4_095, b"xy");
-    patch(&mut second, 1, 4_095, b"xy");
-    assert!(rt; first[4_094] == 0 && first[4_095] == b'x' && second[0] == b'y' && second[1] == 7);
-    // Cut behind `y`, and to 5 bytes.
-    assert!(rt; is_cut_inside(4_097, 8_192, 1) && !is_cut_inside(4_096, 8_192, 1));
-    cut(&mut second, 1, 4_097);
-    assert!(rt; second[0] == b'y' && second[1] == 0 && second[4_095] == 0);
-    let gone = cut_blocks(5, 4_097);
-    assert!(rt; gone.start == 0 && gone.end == 2 && cut_blocks(5, 0).is_empty());
+    let mut second = [0; 4096];
+    put_patch(&mut first, text_patch(4_095, b"xy", 0));
+    put_patch(&mut second, text_patch(4_095, b"xy", 1));
+    // The file's 4,097 bytes, read from 4,094 on.
+    assert_eq!(rt; read_part(&first, 0, 4_094, 4_097), b"\0x".as_slice());
+    assert_eq!(rt; read_part(&second, 1, 4_094, 4_097), b"y".as_slice());
+    Ok(())
+}
+
+#[test]
+fn a_truncation_inside_a_block(rt: HostRuntime) -> Result<(), AllocError> {
+    // Three blocks of a file of 8,193 bytes, cut to 4,097 and to 4,096.
+    assert!(rt; is_cut_inside(4_097, 8_193, 1) && !is_cut_inside(4_096, 8_193, 1));
+    let mut block = [7; 4096];
+    put_patch(&mut block, zero_patch(4_097, 1));
+    assert!(rt; block[0] == 7 && block[1] == 0 && block[4_095] == 0);
+    let touched = cut_blocks(4_097, 8_193);
+    assert!(rt; touched.start == 1 && touched.end == 3);
+    let Some(gone) = taken_away(FILE, 4_097, 8_193) else {
+        return Err(AllocError);
+    };
+    assert!(rt; is_gone(&gone, 2, 3));
+    Ok(())
+}
+
+/// Whether an item says that these places have no block.
+fn is_gone(item: &Item, from: u32, to: u32) -> bool {
+    match (&item.key, &item.value) {
+        (Key::Extent { start, end, .. }, Value::Gone) => *start == from && *end == to,
+        _ => false,
+    }
+}
+
+#[test]
+fn an_empty_file_that_grows(rt: HostRuntime) -> Result<(), AllocError> {
+    // To 5 bytes: no block is touched, none goes, and a hole reads as zeros.
+    assert!(rt; cut_blocks(5, 0).is_empty() && taken_away(FILE, 5, 0).is_none());
+    assert!(rt; !is_cut_inside(5, 0, 0));
+    assert_eq!(rt; read_part(&[0; 4096], 0, 0, 5), [0; 5].as_slice());
+    Ok(())
+}
+
+#[test]
+fn the_blocks_of_a_long_text(rt: HostRuntime) -> Result<(), AllocError> {
+    let text: Vec<u8> = vec![in rt.alloc(); 0; 1_048_576]?;
+    assert_eq!(rt; covered(0, &text).end, 256);
+    assert_eq!(rt; covered(1, &text).end, 257);
+    assert!(rt; !is_partly_covered(0, &text, 255) && is_partly_covered(1, &text, 256));
+    Ok(())
+}
+
+#[test]
+fn patches_are_put_in_order(rt: HostRuntime) -> Result<(), AllocError> {
+    // Two writes and a cut of one line, in one block.
+    let mut block = [7; 4096];
+    let patches = [
+        text_patch(0, b"abc", 0),
+        text_patch(1, b"xyz", 0),
+        zero_patch(3, 0),
+    ];
+    put_patches(&mut block, &patches);
+    assert_eq!(rt; read_part(&block, 0, 0, 5), b"axy\0\0".as_slice());
     Ok(())
 }

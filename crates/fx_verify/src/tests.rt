@@ -91,3 +91,35 @@ fn blocks_that_are_written(rt: HostRuntime) -> Result<(), AllocError> {
     assert_eq!(rt; kept(rt.alloc(), 0, &txns, &found)?, 2);
     Ok(())
 }
+
+/// The sum of a block that begins with `x`, the rest of it zeros.
+const X_SUM: u64 = 527_765_581_332_600;
+
+/// A directory, a file in it, and the text `x` in block 300: the transactions 1 to 3.
+fn three_lines(alloc: Global) -> Result<Vec<(u64, Items)>, AllocError> {
+    let mut txns = Vec::new(alloc);
+    txns.push((1, Items::new(Vec::new(alloc))))?;
+    txns.push((2, Items::new(Vec::new(alloc))))?;
+    txns.push(txn(alloc, 3, (0, 0), 300, &[X_SUM])?)?;
+    Ok(txns)
+}
+
+#[test]
+fn a_written_block_that_was_lost(rt: HostRuntime) -> Result<(), AllocError> {
+    let txns = three_lines(rt.alloc())?;
+    // The disk has zeros there.
+    assert_eq!(rt; kept(rt.alloc(), 0, &txns, &[(300, 0)])?, 2);
+    assert_eq!(rt; kept(rt.alloc(), 0, &txns, &[(300, X_SUM)])?, 3);
+    Ok(())
+}
+
+#[test]
+fn a_lost_block_of_a_file_that_is_gone(rt: HostRuntime) -> Result<(), AllocError> {
+    let mut txns = three_lines(rt.alloc())?;
+    // The file is removed, and then upkeep frees its block.
+    txns.push((4, Items::new(Vec::new(rt.alloc()))))?;
+    assert_eq!(rt; kept(rt.alloc(), 0, &txns, &[(300, 0)])?, 2);
+    txns.push(txn(rt.alloc(), 5, (300, 301), 310, &[])?)?;
+    assert_eq!(rt; kept(rt.alloc(), 0, &txns, &[(300, 0)])?, 5);
+    Ok(())
+}
