@@ -5,15 +5,13 @@ use Rattle.fx_disk.specs.Record.{DiskRecord}
 use Rattle.fx_disk.specs.Steps.{IsRecordOf, with_write, with_flush}
 use Rattle.fx_item.specs.Item.{PlainItem}
 use Rattle.fx_history.specs.declared.entry.Entry.{Entry}
-use Rattle.fx_history.specs.History.{settle}
 use Rattle.fx_journal.specs.Ring.{Queued}
-use Rattle.fx_log.specs.Log.{IsWrittenOut}
 use Rattle.fx_log.specs.Ring.{place_in, bytes_in}
 use Rattle.fx_log.proofs.SuperCalls.{since-flush, next-flush}
 use Rattle.fx_log.proofs.SuperWrites.{since-write, next-write}
 use Rattle.fx_supers.specs.SessionLog.{KeepsLog, flushed_session}
 use Rattle.fx_supers.proofs.LogHeld.{keeps-closed, keeps-flush, keeps-flushed, keeps-tried, keeps-written}
-use Rattle.fx_image.specs.Journal.{HasJournal, Journal, IsJournal, IsNextCommit, IsOnDisk, with_commit, with_closed, with_written, with_settled}
+use Rattle.fx_image.specs.Journal.{HasJournal, Journal, IsJournal, IsNextCommit, IsOnDisk, with_commit, with_closed, with_written, with_settled, settle_upto, AreWritten}
 use Rattle.fx_image.proofs.JournalSteps.{journal-settle}
 use Rattle.fx_image.proofs.PrefixCalls as prefixes
 use Rattle.fx_image.proofs.PrefixNow.{keeps-now}
@@ -93,18 +91,18 @@ module _ (j : Journal) (calls : ℕ) (h : IsJournal j calls) (r : DiskRecord) (d
   pub disk-flush : (ok : Bool) → IsOnDisk j (with_flush r ok)
   disk-flush ok = record { journal = journal-flush j calls h r d.journal ok; next = next-flush j.log.from r ok l.since d.next }
 
-  -- where it was good and all was written: each commit is settled
-  pub disk-settled : calls ≡ length r.calls → IsWrittenOut j.log.tail → IsOnDisk (with_settled (calls + 1) j) (with_flush r true)
-  disk-settled same out =
+  -- where it was good: the commits whose records were written are settled
+  pub disk-settled : calls ≡ length r.calls → (count : ℕ) → AreWritten j count → IsOnDisk (with_settled (calls + 1) count j) (with_flush r true)
+  disk-settled same count out =
       let log : KeepsLog (flushed_session j.log) (with_flush r true) = keeps-flushed j.log h.log r l in
-      let settled : IsJournal (with_settled (calls + 1) j) (calls + 1) = journal-settle j calls h (calls + 1) (omega (arith)) (omega (arith)) out in
+      let settled : IsJournal (with_settled (calls + 1) count j) (calls + 1) = journal-settle j calls h (calls + 1) count (omega (arith)) (omega (arith)) out in
       record {
         journal = record {
           log = log;
           chooses = since-flush j.log.from r true d.journal.chooses;
-          keeps = prefixes.keeps-flush j.log.size j.log.from j.opening.tree j.opening.base j.commits.history (settle (calls + 1) j.commits.history) r
-              (λ ample m image le is. prefixes.prefix-settled j.log.size ample j.opening.tree j.opening.base j.commits.history m image (calls + 1) (omega (arith, le, same)) is) d.journal.keeps r.contents true
-              (keeps-now (with_settled (calls + 1) j) (calls + 1) settled (with_flush r true) log);
+          keeps = prefixes.keeps-flush j.log.size j.log.from j.opening.tree j.opening.base j.commits.history (settle_upto (calls + 1) (j.opening.base + count) j.commits.history) r
+              (λ ample m image le is. prefixes.prefix-settled j.log.size ample j.opening.tree j.opening.base j.commits.history m image (calls + 1) (j.opening.base + count) (omega (arith, le, same)) is) d.journal.keeps r.contents true
+              (keeps-now (with_settled (calls + 1) count j) (calls + 1) settled (with_flush r true) log);
         };
         next = next-flush j.log.from r true l.since d.next;
       }

@@ -9,8 +9,8 @@ use Rattle.fx_item.specs.Item.{PlainItem}
 use Rattle.fx_item.specs.Look.{next_id, next_store, next_id_after, next_store_after}
 use Rattle.fx_namespace.proofs.Items.{next_id_after-more, next_store_after-more}
 use Rattle.fx_history.specs.declared.entry.Entry.{Entry}
-use Rattle.fx_history.specs.History.{settle}
-use Rattle.fx_history.proofs.Settling.{first_more, first_all, settle_length, settle_most, legal_settle, tree_at_settle}
+use Rattle.fx_history.proofs.Settling.{first_more}
+use Rattle.fx_image.proofs.SettleUpto.{legal_upto, tree_at_upto, upto_first, upto_length, upto_most}
 use Rattle.fx_journal.specs.Ring.{Queued, texts}
 use Rattle.fx_record.specs.Record.{TransactionRecord, record_bytes}
 use Rattle.fx_record.specs.Commits.{IsCommit, commits_bytes}
@@ -20,7 +20,7 @@ use Rattle.fx_image.specs.Standing.{Transactions, lists_of}
 use Rattle.fx_log.specs.Log.{IsWrittenOut}
 use Rattle.fx_supers.specs.InMemory.{AppendsTo}
 use Rattle.fx_supers.proofs.LogKept.{session-closed, session-flushed, session-written}
-use Rattle.fx_image.specs.Journal.{Journal, IsJournal, IsNextCommit, AreRecords, AreMarked, AreFew, commit_bytes, with_commit, with_closed, with_written, with_settled}
+use Rattle.fx_image.specs.Journal.{Journal, IsJournal, IsNextCommit, AreRecords, AreWritten, AreMarked, AreFew, max_given, commit_bytes, with_commit, with_closed, with_written, with_settled, settle_upto}
 use Rattle.fx_image.proofs.Replay.{replay_settled}
 use Rattle.fx_image.proofs.PrefixImage.{text_of, texts-fewer}
 
@@ -72,15 +72,15 @@ marked-flushed calls more base blocks settled flushed history records marks le f
 }
 
 few-more : (super : Fields) (txns : Transactions) (history : List Entry) (records : List (List PlainItem)) (entry : Entry) (items : List PlainItem) → AreFew super txns history records → length history < 2 ^ 20
-    → next_id (next_id_after super.next_id (lists_of txns ++ records)) items ≤ next_id_after super.next_id (lists_of txns ++ records) + 1
-    → next_store (next_store_after super.next_store (lists_of txns ++ records)) items ≤ next_store_after super.next_store (lists_of txns ++ records) + 1
+    → next_id (next_id_after super.next_id (lists_of txns ++ records)) items ≤ next_id_after super.next_id (lists_of txns) + max_given
+    → next_store (next_store_after super.next_store (lists_of txns ++ records)) items ≤ next_store_after super.next_store (lists_of txns) + max_given
     → AreFew super txns (history ++ entry ∷ []) (records ++ items ∷ [])
 few-more super txns history records entry items h few id store =
     let joined : (lists_of txns ++ records) ++ items ∷ [] ≡ lists_of txns ++ (records ++ items ∷ []) = append_assoc (lists_of txns) records (items ∷ []) in
     record {
       few = omega (arith, few, length-append history (entry ∷ []));
-      ids = omega (arith, h.ids, id, length-append history (entry ∷ []), next_id_after-more super.next_id (lists_of txns ++ records) items, ap (next_id_after super.next_id) joined);
-      stores = omega (arith, h.stores, store, length-append history (entry ∷ []), next_store_after-more super.next_store (lists_of txns ++ records) items, ap (next_store_after super.next_store) joined);
+      ids = omega (arith, id, next_id_after-more super.next_id (lists_of txns ++ records) items, ap (next_id_after super.next_id) joined);
+      stores = omega (arith, store, next_store_after-more super.next_store (lists_of txns ++ records) items, ap (next_store_after super.next_store) joined);
     }
 
 few-settled : (super : Fields) (txns : Transactions) (history other : List Entry) (records : List (List PlainItem)) → length other ≡ length history → AreFew super txns history records → AreFew super txns other records
@@ -142,27 +142,35 @@ module _ (j : Journal) (calls : ℕ) (h : IsJournal j calls) where
     replays = h.replays;
   }
 
-  -- all was written and is flushed now
-  pub journal-settle : (more : ℕ) → calls ≤ more → 1 ≤ more → IsWrittenOut j.log.tail → IsJournal (with_settled more j) more
-  journal-settle more le some out = record {
+  -- the records of the first commits were written, and are flushed now
+  pub journal-settle : (more count : ℕ) → calls ≤ more → 1 ≤ more → AreWritten j count → IsJournal (with_settled more count j) more
+  journal-settle more count le some out = record {
     reading = h.reading;
     log = session-flushed j.log h.log;
     uncut = h.uncut;
     records = h.records;
     marked = record {
-      few = omega (arith, settle_length more j.commits.history);
-      first = first_all more j.commits.history some;
-      by_now = settle_most more j.commits.history all-before;
-      whole = omega (arith, ap length (sym whole));
+      few = omega (arith, out.few, upto_length more (j.opening.base + count) j.commits.history);
+      first = upto_first j.opening.tree j.opening.base more count j.commits.history h.legal some j.commits.marks h.marked.first out.more;
+      by_now = upto_most more (j.opening.base + count) j.commits.history all-before;
+      whole = out.whole;
     };
-    few = few-settled j.log.head.super j.opening.txns j.commits.history (settle more j.commits.history) j.commits.records (settle_length more j.commits.history) h.few;
-    legal = legal_settle j.opening.tree j.opening.base more j.commits.history h.legal some all-before;
-    replays = replay_settled j.opening.tree j.opening.base j.opening.txns j.commits.history (settle more j.commits.history) j.commits.records h.replays (settle_length more j.commits.history) (λ n. tree_at_settle j.opening.tree more j.commits.history n);
+    few = few-settled j.log.head.super j.opening.txns j.commits.history (settle_upto more (j.opening.base + count) j.commits.history) j.commits.records (upto_length more (j.opening.base + count) j.commits.history) h.few;
+    legal = legal_upto j.opening.tree j.opening.base more count j.commits.history h.legal some all-before;
+    replays = replay_settled j.opening.tree j.opening.base j.opening.txns j.commits.history (settle_upto more (j.opening.base + count) j.commits.history) j.commits.records h.replays (upto_length more (j.opening.base + count) j.commits.history) (λ n. tree_at_upto j.opening.tree more (j.opening.base + count) j.commits.history n);
   }
     where
       all-before : All (λ (e : Entry). e.settled ≤ more) j.commits.history
       all-before = λ i d lt. omega (arith, h.marked.by_now i d lt)
 
+  -- where all was written, so were the records of all commits
+  pub written-all : IsWrittenOut j.log.tail → AreWritten j (length j.commits.history)
+  written-all out = record {
+    more = h.marked.few;
+    few = omega arith;
+    whole = omega (arith, ap length (sym whole));
+  }
+    where
       -- all blocks are all of the records
       whole : texts (take j.log.tail.written j.log.tail.blocks) ≡ commits_bytes j.opening.base (take (length j.commits.history) j.commits.records)
       whole =

@@ -21,7 +21,7 @@ use Rattle.fx_supers.specs.Supers.{Supers, only_supers, put_supers, raised_cut}
 use Rattle.fx_image.specs.Standing.{StandsFor, Transactions, items_after}
 use Rattle.fx_image.specs.Prefix.{KeepsAll}
 use Rattle.fx_log.specs.Log.{IsWrittenOut}
-use Rattle.fx_image.specs.Journal.{Journal, IsJournal, IsNextCommit, IsReading, HasJournal, HasOpened, IsOnDisk, new_journal, with_commit, with_closed, with_written, with_settled}
+use Rattle.fx_image.specs.Journal.{Journal, IsJournal, IsNextCommit, IsReading, HasJournal, HasOpened, IsOnDisk, new_journal, with_commit, with_closed, with_written, with_settled, AreWritten}
 use Rattle.fx_disk.proofs.Made.{good-made}
 use Rattle.fx_image.proofs.PrefixNow.{keeps-all}
 use Rattle.fx_image.proofs.JournalCalls.{disk-commit, disk-close, disk-tried, disk-written, disk-flush, disk-settled, journal-flush}
@@ -78,9 +78,9 @@ module _ (j : Journal) (size count : ℕ) (h : IsJournal j count) (before after 
         (subst (λ (t : Bool). MadeOrNot count counted made t (Flushes before after t) (after ≡ before)) good w)
 
     -- it was good, and all was written
-    pub told-settled : ok ≡ true → IsWrittenOut j.log.tail → IfSome after (IsOnDisk (with_settled (count + 1) j))
-    told-settled good out = made-flush (Known size count (IsOnDisk j)) (IsOnDisk (with_settled (count + 1) j)) before after true (flush-done good)
-        (λ r k. disk-settled j count h r k.1 (sym k.0.counted) out) (known size count (IsOnDisk j) before is d)
+    pub told-settled : ok ≡ true → (first : ℕ) → AreWritten j first → IfSome after (IsOnDisk (with_settled (count + 1) first j))
+    told-settled good first out = made-flush (Known size count (IsOnDisk j)) (IsOnDisk (with_settled (count + 1) first j)) before after true (flush-done good)
+        (λ r k. disk-settled j count h r k.1 (sym k.0.counted) first out) (known size count (IsOnDisk j) before is d)
 
 -- ---- a mount
 

@@ -2,6 +2,7 @@ pub mod OneImage
 pub mod Replay
 pub mod ReplaySteps
 pub mod PrefixImage
+pub mod SettleUpto
 pub mod PrefixCalls
 pub mod PrefixNow
 pub mod JournalSteps
@@ -12,3 +13,4 @@ pub mod JournalTold
 pub mod Mounted
 pub mod MountUnfinished
 pub mod NextCommit
+pub mod FewCommits

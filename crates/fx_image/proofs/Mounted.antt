@@ -16,7 +16,7 @@ use Rattle.fx_log.specs.Chosen.{next_generation, start_of}
 use Rattle.fx_log.specs.Ring.{place_in, bytes_in}
 use Rattle.fx_image.specs.Standing.{Transactions}
 use Rattle.fx_log.specs.Log.{IsWrittenOut}
-use Rattle.fx_image.specs.Journal.{Journal, IsJournal, IsNextCommit, IsOnDisk, new_journal, commit_bytes, with_commit, with_closed, with_written, with_settled}
+use Rattle.fx_image.specs.Journal.{Journal, IsJournal, IsNextCommit, IsOnDisk, new_journal, commit_bytes, with_commit, with_closed, with_written, with_settled, AreWritten}
 use Rattle.fx_image.specs.Prefix.{KeepsAll}
 use Rattle.fx_image.specs.Mounted.{IsMounted}
 use Rattle.fx_image.proofs.JournalSteps.{journal-calls, journal-commit, journal-close, journal-write, journal-settle}
@@ -137,13 +137,13 @@ module _ (j : Journal) (seen : DiskSeen) (ring : RingState) (region : Region) (m
         raised = m.raised;
       }
 
-      -- It was good, and all was written: each commit is settled.
-      pub mounted-settled : good ≡ true → IsWrittenOut j.log.tail → IsMounted (with_settled (seen.calls + 1) j) later ring region
-      mounted-settled was_good out =
+      -- It was good: the commits whose records were written are settled.
+      pub mounted-settled : good ≡ true → (count : ℕ) → AreWritten j count → IsMounted (with_settled (seen.calls + 1) count j) later ring region
+      mounted-settled was_good count out =
           let same : later.calls ≡ seen.calls + 1 = made-counts seen.calls later.calls later.last_made good _ _ was_good w.made in
           record {
-            journal = subst (λ (n : ℕ). IsJournal (with_settled (seen.calls + 1) j) n) (sym same) (journal-settle j seen.calls m.journal (seen.calls + 1) (omega arith) (omega arith) out);
-            disk = told-settled j seen.size seen.calls m.journal seen.told later.told is m.disk later.calls later.last_made good w.made was_good out;
+            journal = subst (λ (n : ℕ). IsJournal (with_settled (seen.calls + 1) count j) n) (sym same) (journal-settle j seen.calls m.journal (seen.calls + 1) count (omega arith) (omega arith) out);
+            disk = told-settled j seen.size seen.calls m.journal seen.told later.told is m.disk later.calls later.last_made good w.made was_good count out;
             ring_is = record { sequence = m.ring_is.sequence; size = m.ring_is.size; epoch = m.ring_is.epoch; closed = m.ring_is.closed; chain = m.ring_is.chain; text = m.ring_is.text; queue = m.ring_is.queue };
             raised = m.raised;
           }
@@ -155,5 +155,5 @@ module _ (j : Journal) (seen : DiskSeen) (ring : RingState) (region : Region) (m
   mounted-all out all = told-all seen.told j seen.calls m.journal m.disk out all
 
 -- a journal that was written out still is, once it is settled
-pub settled-out : (calls : ℕ) (j : Journal) → IsWrittenOut j.log.tail → IsWrittenOut (with_settled calls j).log.tail
-settled-out calls j out = record { written = out.written; text = out.text }
+pub settled-out : (calls count : ℕ) (j : Journal) → IsWrittenOut j.log.tail → IsWrittenOut (with_settled calls count j).log.tail
+settled-out calls count j out = record { written = out.written; text = out.text }

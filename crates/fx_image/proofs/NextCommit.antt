@@ -16,7 +16,7 @@ use Rattle.fx_history.proofs.Histories.{legal_more, one_step}
 use Rattle.fx_record.proofs.Lengths.{few_commit}
 use Rattle.fx_image.specs.Replay.{AreItemsOf, OfDirectory, OfFile, OfWrite}
 use Rattle.fx_image.specs.Standing.{lists_of}
-use Rattle.fx_image.specs.Journal.{Journal, IsJournal, IsNextCommit}
+use Rattle.fx_image.specs.Journal.{Journal, IsJournal, IsNextCommit, max_given, opening_id, opening_store}
 use Rattle.fx_image.proofs.ReplaySteps.{replay_step, step_are_items, step_ascends, step_numbers}
 
 -- the items that stand in a journal, and the next numbers
@@ -38,15 +38,15 @@ module _ (j : Journal) (calls : ℕ) (h : IsJournal j calls) where
   pub below-now : IsBelow (items_now j) (id_now j) (store_now j)
   below-now = below_all j.log.head.super.next_id j.log.head.super.next_store (lists_of j.opening.txns ++ j.commits.records) h.reading.head.rules.next_id_least h.reading.head.rules.next_store_least
 
-  pub id-low : id_now j < 2 ^ 62
-  id-low = omega (arith, h.few.ids, h.few.few, h.reading.room.ids_left)
+  pub id-low : id_now j ≤ 2 ^ 62
+  id-low = omega (arith, h.few.ids, h.reading.room.ids_left)
 
-  pub store-low : store_now j < 2 ^ 31
-  store-low = omega (arith, h.few.stores, h.few.few, h.reading.room.stores_left)
+  pub store-low : store_now j ≤ 2 ^ 31
+  store-low = omega (arith, h.few.stores, h.reading.room.stores_left)
 
-  pub next-commit : (entry : Entry) (step : Step) (items : List PlainItem) (answer : Answer) → length j.commits.history < 2 ^ 20 → entry.number ≡ j.opening.base + length j.commits.history + 1 → entry.settled ≡ 0 → 0 < entry.who → entry.steps ≡ step ∷ []
+  pub next-commit : (entry : Entry) (step : Step) (items : List PlainItem) (answer : Answer) → length j.commits.history < 2 ^ 20 → id_now j + 1 ≤ opening_id j + max_given → store_now j + 1 ≤ opening_store j + max_given → entry.number ≡ j.opening.base + length j.commits.history + 1 → entry.settled ≡ 0 → 0 < entry.who → entry.steps ≡ step ∷ []
       → (do_step (tree_at j.opening.tree j.commits.history (j.opening.base + length j.commits.history)) step).0 ≡ Ok answer → AreItemsOf (items_now j) (id_now j) (store_now j) step items → IsNextCommit j entry items
-  next-commit entry step items answer few number settled who one done are =
+  next-commit entry step items answer few more_id more_store number settled who one done are =
       let rise = step_numbers (items_now j) step items (id_now j) (store_now j) below-now are in
       record {
         number = number;
@@ -60,8 +60,8 @@ module _ (j : Journal) (calls : ℕ) (h : IsJournal j calls) where
             })
             (omega (arith, few-items (items_now j) (id_now j) (store_now j) step items are));
         few = few;
-        id = rise.0;
-        store = rise.1;
+        id = omega (arith, rise.0, more_id);
+        store = omega (arith, rise.1, more_store);
       }
     where
       before : Tree

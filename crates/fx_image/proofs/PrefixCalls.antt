@@ -1,6 +1,6 @@
 -- Every image left stands for a prefix of the history: over a longer or a settled history, and over further calls.
-use Rattle.std.proofs.Common.{◌≡◌, ℕ, zero, suc, ◌+◌, ◌≤◌, ◌<◌, List, [], ◌∷◌, ◌++◌, Bool, length, refl, sym, subst, ap, arith, length-append, inl, inr}
-use Rattle.std.specs.Prelude.{Some, slice_get}
+use Rattle.std.proofs.Common.{◌≡◌, ℕ, zero, suc, ◌+◌, ◌≤◌, ◌<◌, List, [], ◌∷◌, ◌++◌, Bool, true, false, cond, length, refl, sym, subst, ap, arith, length-append, inl, inr}
+use Rattle.std.specs.Prelude.{Some, nat_le, slice_get}
 use Rattle.fx_plain.specs.Tree.{Tree}
 use Rattle.fx_plain.specs.Bare.{bare}
 use Rattle.fx_disk.specs.Record.{Call, Write, Flush, DiskRecord, Cell, cell_after}
@@ -10,12 +10,13 @@ use Rattle.fx_disk.proofs.Left.{length-with_call}
 use Rattle.fx_disk.proofs.Kept.{Always-write, Always-flush, Always-map, Always-start}
 use Rattle.fx_super.specs.Super.{Fields}
 use Rattle.fx_history.specs.declared.entry.Entry.{Entry}
-use Rattle.fx_history.specs.History.{tree_at, settle, settled_by}
+use Rattle.fx_history.specs.History.{tree_at, settled_by}
 use Rattle.fx_history.proofs.Histories.{got_split, tree_at_before}
-use Rattle.fx_history.proofs.Settling.{settle_got, settle_length, tree_at_settle}
 use Rattle.fx_log.specs.Chance.{NotByChance}
 use Rattle.fx_image.specs.Standing.{Transactions, IsImage, HasAmpleRoom, kept}
 use Rattle.fx_image.specs.Prefix.{IsPrefix, Began, KeepsPrefix}
+use Rattle.fx_image.specs.Journal.{settle_upto}
+use Rattle.fx_image.proofs.SettleUpto.{tree_at_upto, upto_got, upto_length}
 use Rattle.fx_disk.proofs.Began.{cells-began, began_as-before}
 
 -- ---- one image
@@ -61,12 +62,16 @@ module _ (size : ℕ) (ample : Type 0) (tree : Tree) (base : ℕ) (history : Lis
   early calls zero lt by = absurd (omega arith)
   early calls (suc before) lt by = refl
 
-  pub prefix-settled : (calls : ℕ) → m < calls → IsPrefix size ample tree base history m image → IsPrefix size ample tree base (settle calls history) m image
-  prefix-settled calls lt h = prefix-same (settle calls history) h (omega (arith, settle_length calls history)) (tree_at_settle tree calls history (kept h.super h.txns))
+  early_by : (b : Bool) (calls before : ℕ) → m < calls → cond b (settled_by calls before) before ≤ m → cond b (settled_by calls before) before ≡ before
+  early_by true calls before lt by = early calls before lt by
+  early_by false calls before lt by = refl
+
+  pub prefix-settled : (calls number : ℕ) → m < calls → IsPrefix size ample tree base history m image → IsPrefix size ample tree base (settle_upto calls number history) m image
+  prefix-settled calls number lt h = prefix-same (settle_upto calls number history) h (omega (arith, upto_length calls number history)) (tree_at_upto tree calls number history (kept h.super h.txns))
       (λ i x got some by.
-      let old = settle_got calls history i x got in
-      let then : settled_by calls old.0.settled ≡ x.settled = ap (λ (y : Entry). y.settled) old.2 in
-      let same : settled_by calls old.0.settled ≡ old.0.settled = early calls old.0.settled lt (omega (arith, then, by)) in
+      let old = upto_got calls number history i x got in
+      let then : cond (nat_le old.0.number number) (settled_by calls old.0.settled) old.0.settled ≡ x.settled = ap (λ (y : Entry). y.settled) old.2 in
+      let same : cond (nat_le old.0.number number) (settled_by calls old.0.settled) old.0.settled ≡ old.0.settled = early_by (nat_le old.0.number number) calls old.0.settled lt (omega (arith, then, by)) in
       subst (λ (y : Entry). y.number ≤ kept h.super h.txns) old.2 (h.settled i old.0 old.1 (omega (arith, same, then, some)) (omega (arith, same, then, by))))
 
 -- ---- all images

@@ -28,7 +28,7 @@ use Rattle.fx_log.specs.Ring.{as_stream}
 use Rattle.fx_log.specs.Chosen.{start_of}
 use Rattle.fx_supers.specs.Shown.{ShowsCut, ShowsRun}
 use Rattle.fx_image.specs.Prefix.{IsPrefix, HasWholeHistory}
-use Rattle.fx_image.specs.Journal.{Journal, IsJournal}
+use Rattle.fx_image.specs.Journal.{Journal, IsJournal, max_given}
 
 -- ---- texts
 
@@ -97,13 +97,13 @@ abbrev pub under : Fields → ℕ → Fields
 under f n = record f { generation = n }
 
 pub room-left : (f : Fields) (n : ℕ) (txns now : Transactions) (more k : ℕ) (records : List (List PlainItem)) → n ≤ f.generation + 1 → lists_of now ≡ lists_of txns ++ take k records → kept f now ≤ kept f txns + more → more ≤ 2 ^ 20
-    → next_id_after f.next_id (lists_of txns ++ records) ≤ next_id_after f.next_id (lists_of txns) + more
-    → next_store_after f.next_store (lists_of txns ++ records) ≤ next_store_after f.next_store (lists_of txns) + more
+    → next_id_after f.next_id (lists_of txns ++ records) ≤ next_id_after f.next_id (lists_of txns) + max_given
+    → next_store_after f.next_store (lists_of txns ++ records) ≤ next_store_after f.next_store (lists_of txns) + max_given
     → HasAmpleRoom f txns → HasSessionRoom (under f n) now
 room-left f n txns now more k records next lists few short ids stores h =
-    let mine : next_id_after f.next_id (lists_of now) ≤ next_id_after f.next_id (lists_of txns) + more =
+    let mine : next_id_after f.next_id (lists_of now) ≤ next_id_after f.next_id (lists_of txns) + max_given =
     omega (arith, ap (next_id_after f.next_id) lists, ids-fewer f.next_id k (lists_of txns) records) in
-    let own : next_store_after f.next_store (lists_of now) ≤ next_store_after f.next_store (lists_of txns) + more =
+    let own : next_store_after f.next_store (lists_of now) ≤ next_store_after f.next_store (lists_of txns) + max_given =
     omega (arith, ap (next_store_after f.next_store) lists, stores-fewer f.next_store k (lists_of txns) records) in
     record {
       generations = omega (arith, next, h.generations);

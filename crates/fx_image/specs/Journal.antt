@@ -1,11 +1,11 @@
 -- The journal of a mounted disk as plain data: its log, what it began with, and the commits made
 -- since; what it keeps, and what the disk has of it.
-use Rattle.std.specs.Prelude.{◌≡◌, ℕ, ◌+◌, ◌^◌, ◌≤◌, ◌<◌, All, None, Some, List, [], ◌∷◌, ◌++◌, length, take}
+use Rattle.std.specs.Prelude.{◌≡◌, ℕ, ◌+◌, ◌^◌, ◌≤◌, ◌<◌, All, None, Some, List, [], ◌∷◌, ◌++◌, length, map, nat_le, take, if◌then◌else◌}
 use Rattle.fx_item.specs.Item.{PlainItem}
 use Rattle.fx_item.specs.Look.{next_id, next_store, next_id_after, next_store_after}
 use Rattle.fx_plain.specs.Tree.{Tree}
 use Rattle.fx_history.specs.declared.entry.Entry.{Entry}
-use Rattle.fx_history.specs.History.{Legal, SettledFirst, settle}
+use Rattle.fx_history.specs.History.{Legal, SettledFirst, settle_entry}
 use Rattle.fx_jblock.specs.declared.Start.{Start}
 use Rattle.fx_journal.specs.declared.stream.StreamBlock.{StreamBlock}
 use Rattle.fx_journal.specs.Ring.{Queued, texts}
@@ -73,14 +73,30 @@ with_closed j closed chain text = record j { log = closed_session j.log closed c
 abbrev pub with_written : Journal → Journal
 with_written j = record j { log = written_session j.log }
 
--- The disk was flushed, by the last of so many calls, when all was written: each commit is settled.
-abbrev pub settled_commits : ℕ → Commits → Commits
-settled_commits calls c =
-    record c { history = settle calls c.history; marks = length c.history }
+-- the entries up to the number are settled after so many calls, where they were not before
+abbrev pub settle_upto : (calls number : ℕ) → List Entry → List Entry
+settle_upto calls number history =
+    map (λ entry. if nat_le entry.number number then settle_entry calls entry else entry) history
 
-abbrev pub with_settled : ℕ → Journal → Journal
-with_settled calls j =
-    record j { log = flushed_session j.log; commits = settled_commits calls j.commits }
+-- The disk was flushed, by the last of so many calls, when the records of the first `count` commits
+-- were written: these are settled.
+abbrev pub settled_commits : (calls base count : ℕ) → Commits → Commits
+settled_commits calls base count c =
+    record c { history = settle_upto calls (base + count) c.history; marks = count }
+
+abbrev pub with_settled : (calls count : ℕ) → Journal → Journal
+with_settled calls count j = record j {
+  log = flushed_session j.log;
+  commits = settled_commits calls j.opening.base count j.commits;
+}
+
+-- The first `count` commits, no fewer than are settled, have their records in blocks that are
+-- written.
+pub record AreWritten (j : Journal) (count : ℕ) : Type 0 where
+  pub more : j.commits.marks ≤ count
+  pub few : count ≤ length j.commits.history
+  pub whole : length (commits_bytes j.opening.base (take count j.commits.records))
+      ≤ length (texts (take j.log.tail.written j.log.tail.blocks))
 
 -- ---- what a journal keeps
 
@@ -108,14 +124,18 @@ pub record AreMarked (calls base : ℕ) (blocks : List Queued) (settled : ℕ) (
   pub whole : length (commits_bytes base (take marks records))
       ≤ length (texts (take settled blocks))
 
--- The commits are few, and each uses at most one more id and one more store.
+-- the most ids, and the most stores, that are given out after a mount
+abbrev pub max_given : ℕ
+max_given = 2 ^ 23
+
+-- The commits are few, and use no more ids and stores than are given out.
 pub record AreFew (super : Fields) (txns : Transactions) (history : List Entry)
     (records : List (List PlainItem)) : Type 0 where
   pub few : length history ≤ 2 ^ 20
   pub ids : next_id_after super.next_id (lists_of txns ++ records)
-      ≤ next_id_after super.next_id (lists_of txns) + length history
+      ≤ next_id_after super.next_id (lists_of txns) + max_given
   pub stores : next_store_after super.next_store (lists_of txns ++ records)
-      ≤ next_store_after super.next_store (lists_of txns) + length history
+      ≤ next_store_after super.next_store (lists_of txns) + max_given
 
 -- The superblock is the one that was read, but for its generation, which is at most one greater.
 pub record IsMountCut (f : Fields) (cut : SuperCut) : Type 0 where
@@ -148,6 +168,13 @@ pub record IsJournal (j : Journal) (calls : ℕ) : Type 0 where
 abbrev pub journal_lists : Journal → List (List PlainItem)
 journal_lists j = lists_of j.opening.txns ++ j.commits.records
 
+-- the next numbers at the mount
+abbrev pub opening_id : Journal → ℕ
+opening_id j = next_id_after j.log.head.super.next_id (lists_of j.opening.txns)
+
+abbrev pub opening_store : Journal → ℕ
+opening_store j = next_store_after j.log.head.super.next_store (lists_of j.opening.txns)
+
 -- the next numbers, as its items leave them
 abbrev pub journal_id : Journal → ℕ
 journal_id j = next_id_after j.log.head.super.next_id (journal_lists j)
@@ -164,8 +191,8 @@ pub record IsNextCommit (j : Journal) (entry : Entry) (items : List PlainItem) :
       (j.commits.history ++ entry ∷ []) (j.commits.records ++ items ∷ [])
   pub items_are : IsCommit items
   pub few : length j.commits.history < 2 ^ 20
-  pub id : next_id (journal_id j) items ≤ journal_id j + 1
-  pub store : next_store (journal_store j) items ≤ journal_store j + 1
+  pub id : next_id (journal_id j) items ≤ opening_id j + max_given
+  pub store : next_store (journal_store j) items ≤ opening_store j + max_given
 
 -- the record bytes of a commit
 abbrev pub commit_bytes : Entry → List PlainItem → List ℕ

@@ -171,6 +171,10 @@ module _ (size : ℕ) (f : Fields) (read : Read) (fits : FitsTogether size f rea
         mounted = mounted-new size from read.tree read.base f read.blocks read.place read.txns (other which) after ring pool is_journal
             (told-mounted (journal_of size from f read raised) after.told has next) p.ring_is;
         session = p.session from raised;
+        given = record {
+          ids = omega (arith, (p.session from raised).id, ap (next_id_after f.next_id) (append-nil (lists_of read.txns)));
+          stores = omega (arith, (p.session from raised).store, ap (next_store_after f.next_store) (append-nil (lists_of read.txns)));
+        };
         small = omega (arith, fits.small, ap node_count (session-at from).tree);
         buffers = p.buffers;
       }

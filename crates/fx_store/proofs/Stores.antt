@@ -1,8 +1,7 @@
 -- What a mounted disk keeps inside, over all that happens to it.
-use Rattle.std.proofs.Common.{◌≡◌, ℕ, ◌+◌, ◌*◌, ◌^◌, ◌≤◌, ◌<◌, Bool, true, List, [], ◌∷◌, ◌++◌, length, length-append, drop, refl, sym, ap, subst, ◌∙◌, append_assoc, arith}
+use Rattle.std.proofs.Common.{◌≡◌, ℕ, ◌+◌, ◌^◌, ◌≤◌, ◌<◌, Bool, true, List, [], ◌∷◌, ◌++◌, length, length-append, drop, refl, sym, ap, subst, ◌∙◌, append_assoc, arith}
 use Rattle.std.specs.Prelude.{None, Some, IfSome, All, Ok, sum_by}
 use Rattle.std.proofs.lemmas.List.{length-drop}
-use Rattle.std.proofs.lemmas.List.Elements.{All-head, All-tail}
 use Rattle.fx_item.specs.Item.{PlainItem}
 use Rattle.fx_item.specs.Look.{ItemMap, after, after_all, next_id, next_store, next_id_after, next_store_after}
 use Rattle.fx_plain.specs.Bare.{bare}
@@ -19,30 +18,29 @@ use Rattle.fx_namespace.specs.Trees.{IsTreeOf}
 use Rattle.fx_namespace.proofs.Items.{after_all-more, next_id_after-more, next_store_after-more}
 use Rattle.fx_namespace.proofs.Trees.{one_tree}
 use Rattle.fx_record.specs.Txns.{txns_of}
-use Rattle.fx_record.proofs.Commits.{least_length}
 use Rattle.fx_history.specs.declared.entry.Entry.{Entry}
 use Rattle.fx_history.specs.History.{SettledFirst, tree_at, settle}
-use Rattle.fx_history.proofs.Histories.{tree_next}
-use Rattle.fx_history.proofs.Settling.{settle_length, tree_now_settle}
+use Rattle.fx_history.proofs.Histories.{below_end, tree_next}
+use Rattle.fx_history.proofs.Settling.{settle_length}
 use Rattle.fx_disk.specs.Seen.{DiskSeen, HasFlushed, HasWritten}
 use Rattle.fx_disk.proofs.Told.{told-map}
 use Rattle.fx_disk.specs.Steps.{IsRecordOf}
 use Rattle.fx_pool.specs.Region.{Region}
 use Rattle.fx_jblock.specs.declared.TheConstants.{RECORD_BYTES}
-use Rattle.fx_journal.specs.Ring.{RingState, IsRing, KeepsBuffers, KeepsRing, Queued, HoldsQueue, Appended, begun, blocks_out, next_block, padded, padded_by, padding, run_blocks, texts, without_first}
+use Rattle.fx_journal.specs.Ring.{RingState, IsRing, KeepsBuffers, KeepsRing, Queued, HoldsQueue, Appended, begun, blocks_out, next_block, padded, padded_by, padding, run_blocks, without_first}
 use Rattle.fx_journal.specs.Writing.{block_at, first_bytes}
 use Rattle.fx_image.specs.Replay.{AreItemsOf}
-use Rattle.fx_log.specs.Ring.{HasRecords}
 use Rattle.fx_image.specs.Standing.{Transactions, StandsFor, items_after, lists_of}
 use Rattle.fx_image.specs.Journal.{Journal, IsJournal, IsOnDisk, commit_bytes, with_commit, with_closed, with_written, with_settled}
 use Rattle.fx_log.specs.Log.{IsWrittenOut}
-use Rattle.fx_supers.specs.Supers.{Origin, SuperCut}
-use Rattle.fx_supers.specs.SessionLog.{HasPlacesFrom}
 use Rattle.fx_image.specs.Prefix.{KeepsPrefix, KeepsAll}
 use Rattle.fx_log.specs.Raising.{ChoosesSince, ChoosesNext}
 use Rattle.fx_image.specs.Mounted.{IsMounted}
+use Rattle.fx_image.proofs.FewCommits.{commits-few}
+use Rattle.fx_image.proofs.JournalSteps.{written-all}
+use Rattle.fx_image.proofs.SettleUpto.{tree_now_upto, upto_all}
 use Rattle.fx_image.proofs.Replay.{replay_now}
-use Rattle.fx_image.proofs.ReplaySteps.{after_one}
+use Rattle.fx_image.proofs.ReplaySteps.{after_one, step_numbers}
 use Rattle.fx_image.proofs.NextCommit.{id_now, store_now, below-now, id-low, store-low, next-commit}
 use Rattle.fx_disk.proofs.Made.{made-counts}
 use Rattle.fx_image.proofs.Mounted.{mounted-commit, mounted-flush-tried, mounted-padded, mounted-promised, mounted-settled, mounted-tried, mounted-written, mounted-all, settled-out}
@@ -54,21 +52,6 @@ use Rattle.fx_store.specs.declared.commit.Change.{Change}
 use Rattle.fx_store.specs.declared.commit.Commit.{Commit}
 use Rattle.fx_store.specs.declared.session.Session.{Session}
 use Rattle.fx_store.proofs.Planning.{done_from, plan_length}
-
--- ---- few commits fit the ring
-
-texts-most : (blocks : List Queued) → All HasRecords blocks → length (texts blocks) ≤ RECORD_BYTES * length blocks
-texts-most [] h = omega arith
-texts-most (q ∷ qs) h =
-    omega (arith, length-append q.text (texts qs), (All-head HasRecords q qs h).room, texts-most qs (All-tail HasRecords q qs h))
-
--- no checkpoint was made, so all blocks have their places from the start that the mount found
-room-uncut : (j : Journal) (calls : ℕ) → IsJournal j calls → length j.log.head.read + length j.log.tail.blocks ≤ j.log.head.super.ring
-room-uncut j calls h = subst (λ (from : Origin). HasPlacesFrom j.log.head j.log.tail.blocks from) (ap (λ (c : SuperCut). c.origin) h.uncut.current.same) h.log.places
-
-pub commits-few : (j : Journal) (calls : ℕ) → IsJournal j calls → length j.log.tail.text < RECORD_BYTES → length j.commits.history < 2 ^ 20
-commits-few j calls h short =
-    omega (arith, ap length h.records.joined, length-append (texts j.log.tail.blocks) j.log.tail.text, texts-most j.log.tail.blocks h.log.closed.records, room-uncut j calls h, h.reading.head.rules.ring_most, least_length j.opening.base j.commits.records, h.replays.one_each, short)
 
 -- ---- the ring and its buffers
 
@@ -178,6 +161,10 @@ module _ {seen : DiskSeen} {from : ℕ} {s : Session} {ring : RingState} {pool :
       id = ap (λ (x : Session). x.next.id) e ∙ h.session.id;
       store = ap (λ (x : Session). x.next.store) e ∙ h.session.store;
     };
+    given = record {
+      ids = omega (arith, h.given.ids, ap (λ (x : Session). x.next.id) e, ap length n.history);
+      stores = omega (arith, h.given.stores, ap (λ (x : Session). x.next.store) e, ap length n.history);
+    };
     small = omega (arith, h.small, ap (λ (x : Session). node_count x.tree) e, ap length n.history);
     buffers = h.buffers;
   }
@@ -192,6 +179,7 @@ module _ {seen : DiskSeen} {from : ℕ} {s : Session} {ring : RingState} {pool :
         opens = h.opens;
         mounted = mounted-promised j seen ring pool h.mounted new region ring.promised new.buffers u.ring_is u.queue;
         session = h.session;
+        given = record { ids = h.given.ids; stores = h.given.stores };
         small = h.small;
         buffers = u.buffers;
       })
@@ -245,7 +233,8 @@ module _ {seen : DiskSeen} {from : ℕ} {s : Session} {ring : RingState} {pool :
       from_is = h.from_is;
       opens = h.opens;
       mounted = mounted-commit j seen ring pool h.mounted entry list
-          (next-commit j seen.calls is_journal entry step list answer.0 (commits-few j seen.calls is_journal (omega (arith, h.buffers.ring_is.unfinished_room, ap length h.mounted.ring_is.text))) numbered refl who refl done-there are)
+          (next-commit j seen.calls is_journal entry step list answer.0 (commits-few j seen.calls is_journal (omega (arith, h.buffers.ring_is.unfinished_room, ap length h.mounted.ring_is.text)))
+          (omega (arith, h.given.ids, h.session.id, length-is, is_journal.few.few)) (omega (arith, h.given.stores, h.session.store, length-is, is_journal.few.few)) numbered refl who refl done-there are)
           new region d.buffers.ring_is d.start d.size d.epoch d.queued appended;
       session = record {
         base = ap (λ (x : Session). x.base) d.session ∙ h.session.base;
@@ -256,6 +245,10 @@ module _ {seen : DiskSeen} {from : ℕ} {s : Session} {ring : RingState} {pool :
         knows = subst (λ (m : ItemMap). KnowsNodes m t.nodes) items-more (subst (KnowsNodes (after (items_now j) list)) (ap (λ (x : Session). x.nodes) (sym d.session)) ready.plan.knows);
         id = ap (λ (x : Session). x.next.id) d.session ∙ ready.plan.id ∙ ap (λ (n : ℕ). next_id n list) h.session.id ∙ sym (next_id_after-more j.log.head.super.next_id (lists_of j.opening.txns ++ j.commits.records) list) ∙ ap (next_id_after j.log.head.super.next_id) lists-more;
         store = ap (λ (x : Session). x.next.store) d.session ∙ ready.plan.store ∙ ap (λ (n : ℕ). next_store n list) h.session.store ∙ sym (next_store_after-more j.log.head.super.next_store (lists_of j.opening.txns ++ j.commits.records) list) ∙ ap (next_store_after j.log.head.super.next_store) lists-more;
+      };
+      given = record {
+        ids = omega (arith, h.given.ids, ap (λ (x : Session). x.next.id) d.session, ready.plan.id, (step_numbers (items_now j) step list s.next.id s.next.store knows.below ready.plan.are).0, ap length d.history, length-append s.history.items (entry ∷ []));
+        stores = omega (arith, h.given.stores, ap (λ (x : Session). x.next.store) d.session, ready.plan.store, (step_numbers (items_now j) step list s.next.id s.next.store knows.below ready.plan.are).1, ap length d.history, length-append s.history.items (entry ∷ []));
       };
       small = omega (arith, h.small, ap (λ (x : Session). node_count x.tree) d.session, node_count-do_step s.tree step, one-node step, ap length d.history, length-append s.history.items (entry ∷ []));
       buffers = d.buffers;
@@ -272,6 +265,7 @@ module _ {seen : DiskSeen} {from : ℕ} {s : Session} {ring : RingState} {pool :
     opens = h.opens;
     mounted = mounted-padded j seen ring pool h.mounted new region kept.ring e (queue (drop j.log.tail.written j.log.tail.blocks) h.mounted.ring_is.queue);
     session = record { base = h.session.base; txns = h.session.txns; history = h.session.history; settled = h.session.settled; tree = h.session.tree; knows = h.session.knows; id = h.session.id; store = h.session.store };
+    given = record { ids = h.given.ids; stores = h.given.stores };
     small = h.small;
     buffers = buffers-padded ring new pool region h.buffers e kept.ring kept.buffers out kept.others.order;
   }
@@ -291,6 +285,7 @@ module _ {seen : DiskSeen} {from : ℕ} {s : Session} {ring : RingState} {pool :
         opens = h.opens;
         mounted = mounted-tried j seen ring pool h.mounted is later good before sequence next wrote;
         session = h.session;
+        given = record { ids = h.given.ids; stores = h.given.stores };
         small = h.small;
         buffers = h.buffers;
       }
@@ -304,6 +299,7 @@ module _ {seen : DiskSeen} {from : ℕ} {s : Session} {ring : RingState} {pool :
         opens = h.opens;
         mounted = mounted-written j seen ring pool h.mounted is later good before sequence next wrote was_good new region e (queue (drop j.log.tail.written j.log.tail.blocks) h.mounted.ring_is.queue);
         session = record { base = h.session.base; txns = h.session.txns; history = h.session.history; settled = h.session.settled; tree = h.session.tree; knows = h.session.knows; id = h.session.id; store = h.session.store };
+        given = record { ids = h.given.ids; stores = h.given.stores };
         small = h.small;
         buffers = buffers-written ring new pool region h.buffers e kept.ring kept.buffers given kept.others.order;
       }
@@ -318,6 +314,7 @@ module _ {seen : DiskSeen} {from : ℕ} {s : Session} {ring : RingState} {pool :
         opens = h.opens;
         mounted = mounted-flush-tried j seen ring pool h.mounted is later good w;
         session = h.session;
+        given = record { ids = h.given.ids; stores = h.given.stores };
         small = h.small;
         buffers = h.buffers;
       }
@@ -331,17 +328,21 @@ module _ {seen : DiskSeen} {from : ℕ} {s : Session} {ring : RingState} {pool :
         }
 
         abbrev flushed : Journal
-        flushed = with_settled (seen.calls + 1) j
+        flushed = with_settled (seen.calls + 1) (length j.commits.history) j
 
         mounted-now : IsMounted flushed later ring pool
-        mounted-now = mounted-settled j seen ring pool h.mounted is later good w was_good out
+        mounted-now = mounted-settled j seen ring pool h.mounted is later good w was_good (length j.commits.history) (written-all j seen.calls is_journal out)
+
+        -- all are settled
+        all-settled : flushed.commits.history ≡ settle (seen.calls + 1) j.commits.history
+        all-settled = upto_all (seen.calls + 1) (j.opening.base + length j.commits.history) j.commits.history (below_end j.opening.tree j.opening.base j.commits.history (j.opening.base + length j.commits.history) is_journal.legal (omega arith))
 
         pub store-counted : later.calls ≡ seen.calls + 1
         store-counted = made-counts seen.calls later.calls later.last_made good _ _ was_good w.made
 
         module _ (t : Session) (e : t ≡ record s { settled = length s.history.items; history = t.history }) (items : t.history.items ≡ settle later.calls s.history.items) where
-          history-is : t.history.items ≡ settle (seen.calls + 1) j.commits.history
-          history-is = items ∙ ap (λ (n : ℕ). settle n s.history.items) store-counted ∙ ap (settle (seen.calls + 1)) h.session.history
+          history-is : t.history.items ≡ flushed.commits.history
+          history-is = items ∙ ap (λ (n : ℕ). settle n s.history.items) store-counted ∙ ap (settle (seen.calls + 1)) h.session.history ∙ sym all-settled
 
           pub store-settled : IsStore later from t ring pool
           store-settled = record {
@@ -355,10 +356,14 @@ module _ {seen : DiskSeen} {from : ℕ} {s : Session} {ring : RingState} {pool :
               txns = ap (λ (x : Session). txns_of x.txns) e ∙ h.session.txns;
               history = history-is;
               settled = ap (λ (x : Session). x.settled) e ∙ length-is;
-              tree = ap (λ (x : Session). x.tree) e ∙ h.session.tree ∙ sym (tree_now_settle j.opening.tree j.opening.base (seen.calls + 1) j.commits.history);
+              tree = ap (λ (x : Session). x.tree) e ∙ h.session.tree ∙ sym (tree_now_upto j.opening.tree j.opening.base (seen.calls + 1) (j.opening.base + length j.commits.history) j.commits.history);
               knows = subst (KnowsNodes (items_now j)) (ap (λ (x : Session). x.nodes) (sym e)) h.session.knows;
               id = ap (λ (x : Session). x.next.id) e ∙ h.session.id;
               store = ap (λ (x : Session). x.next.store) e ∙ h.session.store;
+            };
+            given = record {
+              ids = omega (arith, h.given.ids, ap (λ (x : Session). x.next.id) e, ap length items, settle_length later.calls s.history.items);
+              stores = omega (arith, h.given.stores, ap (λ (x : Session). x.next.store) e, ap length items, settle_length later.calls s.history.items);
             };
             small = omega (arith, h.small, ap (λ (x : Session). node_count x.tree) e, ap length items, settle_length later.calls s.history.items);
             buffers = h.buffers;
@@ -373,7 +378,7 @@ module _ {seen : DiskSeen} {from : ℕ} {s : Session} {ring : RingState} {pool :
               (subst (λ (x : Tree). KeepsAll j.log.size j.log.from x s.base t.history.items r) (sym (opening-is opening opens))
               (subst (λ (n : ℕ). KeepsAll j.log.size j.log.from j.opening.tree n t.history.items r) (sym h.session.base)
               (subst (λ (es : List Entry). KeepsAll j.log.size j.log.from j.opening.tree j.opening.base es r) (sym history-is) all)))))
-              (mounted-all flushed later ring pool mounted-now (settled-out (seen.calls + 1) j out) refl)
+              (mounted-all flushed later ring pool mounted-now (settled-out (seen.calls + 1) (length j.commits.history) j out) refl)
 
           pub store-whole : IfSome later.told (KeepsWhole later.size from (txns_of t.txns) t.base t.history.items)
           store-whole =

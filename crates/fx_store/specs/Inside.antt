@@ -8,7 +8,7 @@ use Rattle.fx_pool.specs.Region.{Region}
 use Rattle.fx_journal.specs.Ring.{RingState, IsRing, KeepsBuffers, Queued, HoldsQueue, Appended, blocks_out, live}
 use Rattle.fx_item.specs.declared.full.Full.{Full}
 use Rattle.fx_image.specs.Standing.{StandsFor, items_after}
-use Rattle.fx_image.specs.Journal.{Journal}
+use Rattle.fx_image.specs.Journal.{Journal, opening_id, opening_store}
 use Rattle.fx_image.specs.Mounted.{IsMounted}
 use Rattle.fx_store.specs.Session.{IsSessionOf}
 use Rattle.fx_store.specs.Line.{change_entry}
@@ -28,6 +28,11 @@ pub record HasBuffers (ring : RingState) (pool : Region) : Type 0 where
   pub enough : ring.size + 1 ≤ 2 ^ pool.order
   pub promised : ring.promised ≡ 0
 
+-- Each commit used at most one more id and one more store.
+pub record HasGiven (j : Journal) (s : Session) : Type 0 where
+  pub ids : s.next.id ≤ opening_id j + length s.history.items
+  pub stores : s.next.store ≤ opening_store j + length s.history.items
+
 -- The state of a disk that was mounted after `from` calls.
 pub record IsStore (seen : DiskSeen) (from : ℕ) (s : Session) (ring : RingState) (pool : Region)
     : Type 0 where
@@ -37,6 +42,7 @@ pub record IsStore (seen : DiskSeen) (from : ℕ) (s : Session) (ring : RingStat
   pub opens : StandsFor (items_after journal.opening.txns) journal.opening.tree
   pub mounted : IsMounted journal seen ring pool
   pub session : IsSessionOf journal s
+  pub given : HasGiven journal s
   pub small : node_count s.tree ≤ MAX_OPENING_NODES + length s.history.items
   pub buffers : HasBuffers ring pool
 

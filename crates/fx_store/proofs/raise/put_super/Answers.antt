@@ -1,5 +1,5 @@
 use Rattle.std.proofs.Common.{ℕ, ◌∙◌, ap, subst, Bool, true}
-use Rattle.std.specs.Prelude.{IfSome, is_ok}
+use Rattle.std.specs.Prelude.{is_ok}
 use Rattle.fx_disk.specs.Seen.{DiskSeen, HasFlushed, HasWritten}
 use Rattle.fx_super.specs.Super.{Fields, IsSuper}
 use Rattle.fx_super.specs.Chosen.{block_number, other}
