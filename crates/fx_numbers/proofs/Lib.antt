@@ -1,0 +1,10 @@
+pub mod HeldLists
+pub mod PartLists
+pub mod Changing
+pub mod Leaving
+pub mod Raising
+pub mod Noting
+pub mod Reserving
+pub mod Showing
+pub mod Trying
+pub mod Flushes
