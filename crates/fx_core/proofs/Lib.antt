@@ -1,0 +1,10 @@
+pub mod Noted
+pub mod Committed
+pub mod Written
+pub mod Staying
+pub mod Opened
+pub mod Quiet
+pub mod Reaching
+pub mod Moves
+pub mod Calls
+pub mod Begun

@@ -1,0 +1,15 @@
+use Rattle.std.proofs.Common.{sym, subst}
+use Rattle.fx_numbers.specs.State.{IsUsed}
+use Rattle.fx_parts.specs.Happening.{MakeRoom}
+use Rattle.fx_core.specs.Core.{CoreState}
+use Rattle.fx_core.proofs.Calls.{core_step, core_still}
+use Rattle.fx_core.proofs.mounted.Core.room.Goals as goal
+
+pub room-requires : goal.room-requires
+room-requires g c = subst (λ (v : CoreState g.row.D.Denot). IsUsed v.numbers c.args.who) (sym c.self.view_is) c.requires
+
+pub invariant_of-self : goal.invariant_of-self
+invariant_of-self g c = core_still c.self.invariant c.in_default.ensures.err
+
+pub invariant_of-self-2 : goal.invariant_of-self-2
+invariant_of-self-2 g c = core_step c.self.invariant (MakeRoom c.args.who c.args.count c.room.new.self.table) tt c.in-Ok.ensures.step

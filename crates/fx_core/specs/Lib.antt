@@ -1,0 +1,5 @@
+pub mod Logged
+pub mod Events
+pub mod Tail
+pub mod Inside
+pub mod Core
