@@ -67,25 +67,26 @@ module _ (s : JoinedState) (used : AreUses s.blocks) (txns_are : s.blocks.txns �
 
 -- ---- which cuts there are
 
-pub cut_front : (s : JoinedState) (txns later : NumberedItems) → AreUses s.blocks → s.blocks.txns ≡ map txn_of s.txns → s.txns ≡ txns ++ later → s.blocks.settled ≤ s.blocks.base + length txns → IsShownCut s s.blocks.base s.opening txns
-cut_front s txns later used txns_are e reaches = record {
+pub cut_front : (s : JoinedState) (txns later : NumberedItems) → AreUses s.blocks → s.based ≤ s.blocks.base → s.blocks.txns ≡ map txn_of s.txns → s.txns ≡ txns ++ later → s.blocks.settled ≤ s.blocks.base + length txns → IsShownCut s s.blocks.base s.opening txns
+cut_front s txns later used low txns_are e reaches = record {
   earlier = [];
   later = later;
   joined = e;
   base_is = omega arith;
   points_are = λ p. sym (ap (λ (m : Points). m p) (points_beyond s.opening s.txns s.blocks.base (least_of s.blocks.base s.txns (subst (λ (w : List Txn). AreNumbered s.blocks.base w) txns_are used.numbered))));
+  from = low;
   flushed = omega (arith, used.marked, used.firm);
   reaches = reaches;
 }
 
-pub cut_later : (s : JoinedState) (earlier txns later : NumberedItems) → s.txns ≡ earlier ++ (txns ++ later) → s.blocks.base + length earlier ≤ s.blocks.firm → s.blocks.settled ≤ s.blocks.base + length earlier + length txns
+pub cut_later : (s : JoinedState) (earlier txns later : NumberedItems) → s.txns ≡ earlier ++ (txns ++ later) → s.based ≤ s.blocks.base + length earlier → s.blocks.base + length earlier ≤ s.blocks.firm → s.blocks.settled ≤ s.blocks.base + length earlier + length txns
     → IsShownCut s (s.blocks.base + length earlier) (points_at s (s.blocks.base + length earlier)) txns
-cut_later s earlier txns later e flushed reaches = record { earlier = earlier; later = later; joined = e; base_is = refl; points_are = λ p. refl; flushed = flushed; reaches = reaches }
+cut_later s earlier txns later e low flushed reaches = record { earlier = earlier; later = later; joined = e; base_is = refl; points_are = λ p. refl; from = low; flushed = flushed; reaches = reaches }
 
 pub cut_by_layers : (sense : LayerSense) → ReadsNamed sense → (points_in : sense.Said → Points) (sum : List ℕ → ℕ) (s : JoinedState) (r : DiskRecord) (image : List (List ℕ)) (reader : Reader) (firsts blocks : List ℕ) (said : sense.Said) (earlier txns later : NumberedItems) → CellsHold sum s.blocks r → LeftNow r image
-    → IsNamed sense s.blocks r reader (s.blocks.base + length earlier) firsts blocks said → points_in said ≡ points_at s (s.blocks.base + length earlier) → s.txns ≡ earlier ++ (txns ++ later) → s.blocks.settled ≤ s.blocks.base + length earlier + length txns
+    → IsNamed sense s.blocks r reader (s.blocks.base + length earlier) firsts blocks said → points_in said ≡ points_at s (s.blocks.base + length earlier) → s.txns ≡ earlier ++ (txns ++ later) → s.based ≤ s.blocks.base + length earlier → s.blocks.settled ≤ s.blocks.base + length earlier + length txns
     → sense.Says (image_block image) firsts blocks said × IsShownCut s (s.blocks.base + length earlier) (points_in said) txns
-cut_by_layers sense reads points_in sum s r image reader firsts blocks said earlier txns later held left named same joined reaches = (
+cut_by_layers sense reads points_in sum s r image reader firsts blocks said earlier txns later held left named same joined low reaches = (
   named_image sense reads sum s.blocks r image reader (s.blocks.base + length earlier) firsts blocks said held left named,
-  record { earlier = earlier; later = later; joined = joined; base_is = refl; points_are = λ p. ap (λ (m : Points). m p) same; flushed = named.flushed; reaches = reaches },
+  record { earlier = earlier; later = later; joined = joined; base_is = refl; points_are = λ p. ap (λ (m : Points). m p) same; from = low; flushed = named.flushed; reaches = reaches },
 )

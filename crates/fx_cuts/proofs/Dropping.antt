@@ -56,7 +56,7 @@ module _ (w : ImageMeanings) (entry : List (List ℕ)) (r : DiskRecord) (size : 
 
 -- ---- one image
 
-module _ (w : ImageMeanings) (trees : ℕ → Tree) (s : JoinedState) (kept from calls : ℕ) (beyond : NumberedItems) (marks : List Mark) (r : DiskRecord) (plain : KeepsState w s kept from calls marks) (whole : s.blocks.settled ≡ last s.blocks)
+module _ (w : ImageMeanings) (trees : ℕ → Tree) (s : JoinedState) (kept from calls : ℕ) (beyond : NumberedItems) (marks bases : List Mark) (r : DiskRecord) (plain : KeepsState w s kept from calls marks bases) (whole : s.blocks.settled ≡ last s.blocks) (first : s.based ≡ s.blocks.base)
     (numbered : AreNumbered s.blocks.base (map txn_of (s.txns ++ beyond))) (now : HoldsTrees w trees s r) (entry : List (List ℕ)) (drops : DropsBeyond w s beyond entry r) where
   last_is : last s.blocks ≡ s.blocks.base + length s.txns
   last_is = ap (λ (ts : List Txn). s.blocks.base + length ts) plain.txns_are ∙ ap (λ (n : ℕ). s.blocks.base + n) (mapped_length s.txns)
@@ -96,8 +96,8 @@ module _ (w : ImageMeanings) (trees : ℕ → Tree) (s : JoinedState) (kept from
         (now.trees_are (last s.blocks) up (omega arith))
 
     pub prefix_found : (m : ℕ) (points : Points) (txns : NumberedItems) → w.Shows image s.blocks.base points txns → ((p : _) → points p ≡ s.opening p) → (txns ≡ s.txns) ⊎ (txns ≡ s.txns ++ beyond) → IsSoundFrom w s.blocks.settled image s.blocks.base points txns
-        → (k : ℕ) × IsPrefixUpTo w trees (last s.blocks) marks m image k
-    prefix_found m points txns shows first which sound = (
+        → (k : ℕ) × IsPrefixUpTo w trees (last s.blocks) marks bases m image k
+    prefix_found m points txns shows opens which sound = (
       last s.blocks,
       record {
         base = s.blocks.base;
@@ -106,18 +106,19 @@ module _ (w : ImageMeanings) (trees : ℕ → Tree) (s : JoinedState) (kept from
         image_is = elim which [
           | inl same ↦ image_up_to w s trees image s.blocks.base points txns (last s.blocks) shows
               (subst (λ (ts : NumberedItems). IsKeptIn w.sum w.first_data image s.blocks.base ts (last s.blocks)) (sym same) kept_left) (sound (last s.blocks) (omega (arith, whole)) (subst (λ (ts : NumberedItems). IsKeptIn w.sum w.first_data image s.blocks.base ts (last s.blocks)) (sym same) kept_left))
-              (ap (λ (m : Points). points_up_to m txns (last s.blocks)) (fun_ext first) ∙ ap (λ (ts : NumberedItems). points_up_to s.opening ts (last s.blocks)) same) stands_there
+              (ap (λ (m : Points). points_up_to m txns (last s.blocks)) (fun_ext opens) ∙ ap (λ (ts : NumberedItems). points_up_to s.opening ts (last s.blocks)) same) stands_there
           | inr more ↦ image_up_to w s trees image s.blocks.base points txns (last s.blocks) shows
               (subst (λ (ts : NumberedItems). IsKeptIn w.sum w.first_data image s.blocks.base ts (last s.blocks)) (sym more) kept_found) (sound (last s.blocks) (omega (arith, whole)) (subst (λ (ts : NumberedItems). IsKeptIn w.sum w.first_data image s.blocks.base ts (last s.blocks)) (sym more) kept_found))
-              (ap (λ (m : Points). points_up_to m txns (last s.blocks)) (fun_ext first) ∙ ap (λ (ts : NumberedItems). points_up_to s.opening ts (last s.blocks)) more
+              (ap (λ (m : Points). points_up_to m txns (last s.blocks)) (fun_ext opens) ∙ ap (λ (ts : NumberedItems). points_up_to s.opening ts (last s.blocks)) more
               ∙ points_append s.opening s.txns beyond (last s.blocks) ∙ points_beyond (points_at s (last s.blocks)) beyond (last s.blocks) beyond_least) stands_there
         ];
         within = omega arith;
         settled = λ i mark got le. let a : mark.number ≤ s.blocks.settled = plain.marked.settled_by i mark got in omega (arith, a, whole);
+        based = λ i mark got le. let a : mark.number ≤ s.based = plain.noted.settled_by i mark got in omega (arith, a, first);
       },
     )
 
-  pub found_now : ShowsFound w s beyond r → HoldsNow (LeavesPrefix w trees (last s.blocks) marks) r
+  pub found_now : ShowsFound w s beyond r → HoldsNow (LeavesPrefix w trees (last s.blocks) marks bases) r
   found_now shows image left chance =
       let f : (points : Points) × (txns : NumberedItems) × w.Shows image s.blocks.base points txns × ((p : _) → points p ≡ s.opening p) × ((txns ≡ s.txns) ⊎ (txns ≡ s.txns ++ beyond)) × IsSoundFrom w s.blocks.settled image s.blocks.base points txns = shows image left chance.formed in
       prefix_found image left (length r.calls) f.0 f.1 f.2 f.3 f.4 f.5
@@ -145,16 +146,16 @@ held_flush : (sum : List ℕ → ℕ) (s : BlockUses) (r : DiskRecord) (ok : Boo
 held_flush sum s r true e h = subst (λ (n : ℕ). CellsHold sum (record s { firm = n }) (with_flush r true)) (sym e) (held_flushed sum s r h)
 held_flush sum s r false e h = held_failed_flush sum s r h
 
-module _ (w : ImageMeanings) (trees : ℕ → Tree) (kept from : ℕ) (s : JoinedState) (beyond : NumberedItems) (marks : List Mark) where
+module _ (w : ImageMeanings) (trees : ℕ → Tree) (kept from : ℕ) (s : JoinedState) (beyond : NumberedItems) (marks bases : List Mark) where
   abbrev pub Mounting : DiskRecord → Type 0
-  Mounting r = HoldsState w trees from s marks r × ((entry : List (List ℕ)) × DropsBeyond w s beyond entry r)
+  Mounting r = HoldsState w trees from s marks bases r × ((entry : List (List ℕ)) × DropsBeyond w s beyond entry r)
 
-  module _ (before after : DiskSeen) (ok : Bool) (is : IfSome before.told (IsRecordOf before.size before.calls)) (d : KeepsMounting w trees kept from s beyond marks before) where
-    joined : KeepsJoined w trees kept from s marks before
-    joined = record { plain = d.plain; told = told-map Mounting (HoldsState w trees from s marks) before.told (λ r i. i.0) d.told }
+  module _ (before after : DiskSeen) (ok : Bool) (is : IfSome before.told (IsRecordOf before.size before.calls)) (d : KeepsMounting w trees kept from s beyond marks bases before) where
+    joined : KeepsJoined w trees kept from s marks bases before
+    joined = record { plain = d.plain; told = told-map Mounting (HoldsState w trees from s marks bases) before.told (λ r i. i.0) d.told }
 
-    plain_then : before.calls ≤ after.calls → KeepsState w s kept from after.calls marks
-    plain_then le = plain_after w trees kept from s marks before after is joined after.calls le
+    plain_then : before.calls ≤ after.calls → KeepsState w s kept from after.calls marks bases
+    plain_then le = plain_after w trees kept from s marks bases before after is joined after.calls le
 
     abbrev BothM : DiskRecord → Type 0
     BothM r = IsRecordOf before.size before.calls r × Mounting r
@@ -168,10 +169,11 @@ module _ (w : ImageMeanings) (trees : ℕ → Tree) (kept from : ℕ) (s : Joine
     firm_is : s.blocks.firm ≡ last s.blocks
     firm_is = omega (arith, d.whole, d.plain.used.firm, d.plain.used.most)
 
-    pub drop_write : (at : ℕ) (put : List ℕ) → at < w.first_data → HasWritten before after at put ok → IfSome after.told (ShowsFound w s beyond) → KeepsMounting w trees kept from s beyond marks after
+    pub drop_write : (at : ℕ) (put : List ℕ) → at < w.first_data → HasWritten before after at put ok → IfSome after.told (ShowsFound w s beyond) → KeepsMounting w trees kept from s beyond marks bases after
     drop_write at put below x shows = record {
       plain = plain_then (no_fewer_calls before.calls after.calls after.last_made ok _ _ x.made);
       whole = d.whole;
+      first = d.first;
       numbered = d.numbered;
       told = shown_then (lift_write BothM (λ q. ShowsFound w s beyond q → Mounting q) ok before after at put x
           (λ failed r i shown. i.1)
@@ -187,22 +189,23 @@ module _ (w : ImageMeanings) (trees : ℕ → Tree) (kept from : ℕ) (s : Joine
             let drops : DropsBeyond w s beyond i.1.0 (with_call r (Write at put ok) contents) = record { size = i.1.1.size; past = past_write w.first_data i.1.0 r at put ok contents below i.1.1.past; kept = i.1.1.kept } in
             let now : HoldsTrees w trees s (with_call r (Write at put ok) contents) = record {
               held = held_written w.sum s.blocks r at put ok contents (ap wanted system) i.0.now.held;
-              trees_are = trees_write (StandsAfter s trees) s.blocks r at put ok contents d.plain.used (reads_live w s kept from before.calls marks trees d.plain) (ap since_of system) i.0.now.trees_are;
+              trees_are = trees_write (StandsAfter s trees) s.blocks r at put ok contents d.plain.used (reads_live w s kept from before.calls marks bases trees d.plain) (ap since_of system) i.0.now.trees_are;
             } in (
               record {
                 now = now;
                 began = λ b. cell_after-with_call r (Write at put ok) contents from b i.0.always.since ∙ i.0.began b;
-                always = Always-write (LeavesPrefix w trees (last s.blocks) marks) (LeavesPrefix w trees (last s.blocks) marks) from r contents at put ok i.0.always (λ m image ge within left p. p)
-                    (prefix_within w trees (last s.blocks) marks)
-                    (found_now w trees s kept from before.calls beyond marks (with_call r (Write at put ok) contents) d.plain d.whole d.numbered now i.1.0 drops shown);
+                always = Always-write (LeavesPrefix w trees (last s.blocks) marks bases) (LeavesPrefix w trees (last s.blocks) marks bases) from r contents at put ok i.0.always (λ m image ge within left p. p)
+                    (prefix_within w trees (last s.blocks) marks bases)
+                    (found_now w trees s kept from before.calls beyond marks bases (with_call r (Write at put ok) contents) d.plain d.whole d.first d.numbered now i.1.0 drops shown);
               },
               (i.1.0, drops),
             )
 
-    pub drop_flush : HasFlushed before after ok → IfSome after.told (ShowsFound w s beyond) → KeepsMounting w trees kept from s beyond marks after
+    pub drop_flush : HasFlushed before after ok → IfSome after.told (ShowsFound w s beyond) → KeepsMounting w trees kept from s beyond marks bases after
     drop_flush x shows = record {
       plain = plain_then (no_fewer_calls before.calls after.calls after.last_made ok _ _ x.made);
       whole = d.whole;
+      first = d.first;
       numbered = d.numbered;
       told = shown_then (lift_flush BothM (λ q. ShowsFound w s beyond q → Mounting q) ok before after x
           (λ failed r i shown. i.1)
@@ -220,29 +223,29 @@ module _ (w : ImageMeanings) (trees : ℕ → Tree) (kept from : ℕ) (s : Joine
               record {
                 now = now;
                 began = λ b. cell_after-with_call r (Flush ok) r.contents from b i.0.always.since ∙ i.0.began b;
-                always = Always-flush (LeavesPrefix w trees (last s.blocks) marks) (LeavesPrefix w trees (last s.blocks) marks) from r r.contents ok i.0.always (λ m image ge within left p. p)
-                    (found_now w trees s kept from before.calls beyond marks (with_flush r ok) d.plain d.whole d.numbered now i.1.0 drops shown);
+                always = Always-flush (LeavesPrefix w trees (last s.blocks) marks bases) (LeavesPrefix w trees (last s.blocks) marks bases) from r r.contents ok i.0.always (λ m image ge within left p. p)
+                    (found_now w trees s kept from before.calls beyond marks bases (with_flush r ok) d.plain d.whole d.first d.numbered now i.1.0 drops shown);
               },
               (i.1.0, drops),
             )
 
   -- the window is over
-  pub drop_end : (seen : DiskSeen) → KeepsMounting w trees kept from s beyond marks seen → KeepsJoined w trees kept from s marks seen
-  drop_end seen d = record { plain = d.plain; told = told-map Mounting (HoldsState w trees from s marks) seen.told (λ r i. i.0) d.told }
+  pub drop_end : (seen : DiskSeen) → KeepsMounting w trees kept from s beyond marks bases seen → KeepsJoined w trees kept from s marks bases seen
+  drop_end seen d = record { plain = d.plain; told = told-map Mounting (HoldsState w trees from s marks bases) seen.told (λ r i. i.0) d.told }
 
 -- where it begins
-begun_dropping : (w : ImageMeanings) (trees : ℕ → Tree) (kept : ℕ) (s : JoinedState) (beyond : NumberedItems) (marks : List Mark) (size calls : ℕ) (told : Option DiskRecord) → IfSome told (IsRecordOf size calls) → KeepsState w s kept calls calls marks → s.blocks.settled ≡ last s.blocks → AreNumbered s.blocks.base (map txn_of (s.txns ++ beyond))
-    → IfSome told (λ r. HoldsTrees w trees s r × ((b : ℕ) → cell_after r calls b ≡ w.before b) × ((entry : List (List ℕ)) × DropsBeyond w s beyond entry r) × ShowsFound w s beyond r) → IfSome told (Mounting w trees kept calls s beyond marks)
-begun_dropping w trees kept s beyond marks size calls None is plain whole numbered now = tt
-begun_dropping w trees kept s beyond marks size calls (Some r) is plain whole numbered now = (
+begun_dropping : (w : ImageMeanings) (trees : ℕ → Tree) (kept : ℕ) (s : JoinedState) (beyond : NumberedItems) (marks bases : List Mark) (size calls : ℕ) (told : Option DiskRecord) → IfSome told (IsRecordOf size calls) → KeepsState w s kept calls calls marks bases → s.blocks.settled ≡ last s.blocks → s.based ≡ s.blocks.base → AreNumbered s.blocks.base (map txn_of (s.txns ++ beyond))
+    → IfSome told (λ r. HoldsTrees w trees s r × ((b : ℕ) → cell_after r calls b ≡ w.before b) × ((entry : List (List ℕ)) × DropsBeyond w s beyond entry r) × ShowsFound w s beyond r) → IfSome told (Mounting w trees kept calls s beyond marks bases)
+begun_dropping w trees kept s beyond marks bases size calls None is plain whole first numbered now = tt
+begun_dropping w trees kept s beyond marks bases size calls (Some r) is plain whole first numbered now = (
   record {
     now = now.0;
     began = now.1;
-    always = subst (λ (n : ℕ). Always (LeavesPrefix w trees (last s.blocks) marks) n r) is.counted (Always-start (LeavesPrefix w trees (last s.blocks) marks) r (found_now w trees s kept calls calls beyond marks r plain whole numbered now.0 now.2.0 now.2.1 now.3));
+    always = subst (λ (n : ℕ). Always (LeavesPrefix w trees (last s.blocks) marks bases) n r) is.counted (Always-start (LeavesPrefix w trees (last s.blocks) marks bases) r (found_now w trees s kept calls calls beyond marks bases r plain whole first numbered now.0 now.2.0 now.2.1 now.3));
   },
   now.2,
 )
 
-pub drop_begin : (w : ImageMeanings) (trees : ℕ → Tree) (kept : ℕ) (s : JoinedState) (beyond : NumberedItems) (marks : List Mark) (seen : DiskSeen) → IfSome seen.told (IsRecordOf seen.size seen.calls) → KeepsState w s kept seen.calls seen.calls marks → s.blocks.settled ≡ last s.blocks → AreNumbered s.blocks.base (map txn_of (s.txns ++ beyond))
-    → IfSome seen.told (λ r. HoldsTrees w trees s r × ((b : ℕ) → cell_after r seen.calls b ≡ w.before b) × ((entry : List (List ℕ)) × DropsBeyond w s beyond entry r) × ShowsFound w s beyond r) → KeepsMounting w trees kept seen.calls s beyond marks seen
-drop_begin w trees kept s beyond marks seen is plain whole numbered now = record { plain = plain; whole = whole; numbered = numbered; told = begun_dropping w trees kept s beyond marks seen.size seen.calls seen.told is plain whole numbered now }
+pub drop_begin : (w : ImageMeanings) (trees : ℕ → Tree) (kept : ℕ) (s : JoinedState) (beyond : NumberedItems) (marks bases : List Mark) (seen : DiskSeen) → IfSome seen.told (IsRecordOf seen.size seen.calls) → KeepsState w s kept seen.calls seen.calls marks bases → s.blocks.settled ≡ last s.blocks → s.based ≡ s.blocks.base → AreNumbered s.blocks.base (map txn_of (s.txns ++ beyond))
+    → IfSome seen.told (λ r. HoldsTrees w trees s r × ((b : ℕ) → cell_after r seen.calls b ≡ w.before b) × ((entry : List (List ℕ)) × DropsBeyond w s beyond entry r) × ShowsFound w s beyond r) → KeepsMounting w trees kept seen.calls s beyond marks bases seen
+drop_begin w trees kept s beyond marks bases seen is plain whole first numbered now = record { plain = plain; whole = whole; first = first; numbered = numbered; told = begun_dropping w trees kept s beyond marks bases seen.size seen.calls seen.told is plain whole first numbered now }

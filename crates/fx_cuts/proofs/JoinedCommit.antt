@@ -26,8 +26,8 @@ points_before s who n items k lt = points_append s.opening s.txns ((n, items) �
     ∙ ap (λ (t : Bool). if t then points_after (points_at s k) (says items) else points_at s k) (lt-leb n k lt)
 
 -- the same image, by a later history
-pub image_longer : (w : ImageMeanings) (trees later : ℕ → Tree) (most more m : ℕ) (marks : List Mark) (image : List (List ℕ)) → most ≤ more → HasTreesOf most trees later → (k : ℕ) × IsPrefixUpTo w trees most marks m image k → (k : ℕ) × IsPrefixUpTo w later more marks m image k
-image_longer w trees later most more m marks image le same p = (
+pub image_longer : (w : ImageMeanings) (trees later : ℕ → Tree) (most more m : ℕ) (marks bases : List Mark) (image : List (List ℕ)) → most ≤ more → HasTreesOf most trees later → (k : ℕ) × IsPrefixUpTo w trees most marks bases m image k → (k : ℕ) × IsPrefixUpTo w later more marks bases m image k
+image_longer w trees later most more m marks bases image le same p = (
   p.0,
   record {
     base = p.1.base;
@@ -36,10 +36,11 @@ image_longer w trees later most more m marks image le same p = (
     image_is = subst (λ (t : Tree). IsImageUpTo w image p.1.base p.1.points p.1.txns p.0 t) (sym (same p.0 p.1.within)) p.1.image_is;
     within = omega (arith, le, p.1.within);
     settled = p.1.settled;
+    based = p.1.based;
   },
 )
 
-module _ (w : ImageMeanings) (trees later : ℕ → Tree) (kept from : ℕ) (s : JoinedState) (marks : List Mark) (calls : ℕ) (plain : KeepsState w s kept from calls marks) (who n : ℕ) (items : List PlainItem) (next : IsNextOf s.blocks who (txn_of (n, items))) (same : HasTreesOf (last s.blocks) trees later) where
+module _ (w : ImageMeanings) (trees later : ℕ → Tree) (kept from : ℕ) (s : JoinedState) (marks bases : List Mark) (calls : ℕ) (plain : KeepsState w s kept from calls marks bases) (who n : ℕ) (items : List PlainItem) (next : IsNextOf s.blocks who (txn_of (n, items))) (same : HasTreesOf (last s.blocks) trees later) where
   abbrev t : JoinedState
   t = with_entry s who n items
 
@@ -58,16 +59,18 @@ module _ (w : ImageMeanings) (trees later : ℕ → Tree) (kept from : ℕ) (s :
       subst IsSome (sym (live_before s.blocks.first s.blocks.txns (txn_of (n, items)) k b lt))
       (h node i b (sym (ap (λ (m : Points). device_block m node i) (points_before s who n items k lt)) ∙ e))
 
-  pub plain_commit : HasLiveFiles t (last s.blocks + 1) → KeepsState w t kept from calls marks
+  pub plain_commit : HasLiveFiles t (last s.blocks + 1) → KeepsState w t kept from calls marks bases
   plain_commit new = record {
     used = used_commit s.blocks who (txn_of (n, items)) plain.used next;
     txns_are = ap (λ (ts : List Txn). ts ++ txn_of (n, items) ∷ []) plain.txns_are ∙ sym (mapped_append s.txns ((n, items) ∷ []));
     data_from = plain.data_from;
     named = λ k ge le. by_number (λ j. s.blocks.settled ≤ j → HasLiveFiles t j) (λ j most lt up. files_before j lt (plain.named j up most)) (λ up. new) k le ge;
     marked = plain.marked;
+    noted = plain.noted;
+    flushed = plain.flushed;
   }
 
-  pub told_commit : (r : DiskRecord) → StandsAfter t later (last s.blocks + 1) (bytes_now r) → HoldsState w trees from s marks r → HoldsState w later from t marks r
+  pub told_commit : (r : DiskRecord) → StandsAfter t later (last s.blocks + 1) (bytes_now r) → HoldsState w trees from s marks bases r → HoldsState w later from t marks bases r
   told_commit r new d = record {
     now = record {
       held = held_commit w.sum s.blocks r who (txn_of (n, items)) plain.used next d.now.held;
@@ -77,15 +80,15 @@ module _ (w : ImageMeanings) (trees later : ℕ → Tree) (kept from : ℕ) (s :
           (λ up. new) k le ge;
     };
     began = d.began;
-    always = Always-map (LeavesPrefix w trees (last s.blocks) marks) (LeavesPrefix w later (last t.blocks) marks) from r
-        (λ m image ge within left p chance. image_longer w trees later (last s.blocks) (last t.blocks) m marks image (omega (arith, last_t)) same (p chance)) d.always;
+    always = Always-map (LeavesPrefix w trees (last s.blocks) marks bases) (LeavesPrefix w later (last t.blocks) marks bases) from r
+        (λ m image ge within left p chance. image_longer w trees later (last s.blocks) (last t.blocks) m marks bases image (omega (arith, last_t)) same (p chance)) d.always;
   }
 
-pub over_commit : (w : ImageMeanings) (trees later : ℕ → Tree) (kept from : ℕ) (s : JoinedState) (marks : List Mark) (seen : DiskSeen) → KeepsJoined w trees kept from s marks seen → (who n : ℕ) (items : List PlainItem) → IsNextOf s.blocks who (txn_of (n, items))
+pub over_commit : (w : ImageMeanings) (trees later : ℕ → Tree) (kept from : ℕ) (s : JoinedState) (marks bases : List Mark) (seen : DiskSeen) → KeepsJoined w trees kept from s marks bases seen → (who n : ℕ) (items : List PlainItem) → IsNextOf s.blocks who (txn_of (n, items))
     → HasTreesOf (last s.blocks) trees later → HasLiveFiles (with_entry s who n items) (last s.blocks + 1) → IfSome seen.told (λ r. StandsAfter (with_entry s who n items) later (last s.blocks + 1) (bytes_now r))
-    → KeepsJoined w later kept from (with_entry s who n items) marks seen
-over_commit w trees later kept from s marks seen d who n items next same files new = record {
-  plain = plain_commit w trees later kept from s marks seen.calls d.plain who n items next same files;
-  told = told-both (λ r. StandsAfter (with_entry s who n items) later (last s.blocks + 1) (bytes_now r)) (HoldsState w trees from s marks) (HoldsState w later from (with_entry s who n items) marks) seen.told
-      (λ r x i. told_commit w trees later kept from s marks seen.calls d.plain who n items next same r x i) new d.told;
+    → KeepsJoined w later kept from (with_entry s who n items) marks bases seen
+over_commit w trees later kept from s marks bases seen d who n items next same files new = record {
+  plain = plain_commit w trees later kept from s marks bases seen.calls d.plain who n items next same files;
+  told = told-both (λ r. StandsAfter (with_entry s who n items) later (last s.blocks + 1) (bytes_now r)) (HoldsState w trees from s marks bases) (HoldsState w later from (with_entry s who n items) marks bases) seen.told
+      (λ r x i. told_commit w trees later kept from s marks bases seen.calls d.plain who n items next same r x i) new d.told;
 }

@@ -1,5 +1,5 @@
 -- One more mark.
-use Rattle.std.proofs.Common.{◌≡◌, ℕ, ◌+◌, ◌<◌, ◌≤◌, List, [], ◌∷◌, ◌++◌, refl, sym, ap, arith, length-append, inl, inr, Some}
+use Rattle.std.proofs.Common.{◌≡◌, ℕ, zero, suc, length, ◌+◌, ◌-◌, ◌<◌, ◌≤◌, List, [], ◌∷◌, ◌++◌, refl, sym, ap, arith, length-append, inl, inr, Some}
 use Rattle.std.specs.Prelude.{slice_get}
 use Rattle.std.proofs.lemmas.Option.{slice_get_within}
 use Rattle.fx_uses.proofs.LiveOverLists.{got_more, got_split}
@@ -81,3 +81,18 @@ module _ (kept from settled calls n : ℕ) (marks : List Mark) (h : AreMarks kep
     | inl old ↦ old
     | inr new ↦ let q : calls + 1 ≡ mark.calls = ap (λ (y : Mark). y.calls) new.1 in absurd (omega (arith, q, le))
   ]
+
+got_within : (marks : List Mark) (i : ℕ) → i < length marks → (mark : Mark) × (slice_get marks i ≡ Some mark)
+got_within [] i lt = absurd (omega (arith, lt))
+got_within (x ∷ xs) zero lt = (x, refl)
+got_within (x ∷ xs) (suc i) lt = got_within xs i (omega (arith, lt))
+
+-- what no mark by the moment passes, the settled number does not
+pub by_latest : (kept from settled calls m reached : ℕ) (marks : List Mark) → AreMarks kept from settled calls marks → calls ≤ m → ((i : ℕ) (mark : Mark) → slice_get marks i ≡ Some mark → mark.calls ≤ m → mark.number ≤ reached) → settled ≤ reached
+by_latest kept from settled calls m reached marks h le all =
+    let some : 0 < length marks = slice_get_within marks 0 (record { number = kept; calls = from }) h.first in
+    let one = got_within marks (length marks - 1) (omega (arith, some)) in
+    let number : one.0.number ≡ settled = h.latest (length marks - 1) one.0 one.1 (omega (arith, some)) in
+    let now : one.0.calls ≤ calls = h.by_now (length marks - 1) one.0 one.1 in
+    let up : one.0.number ≤ reached = all (length marks - 1) one.0 one.1 (omega (arith, now, le)) in
+    omega (arith, number, up)

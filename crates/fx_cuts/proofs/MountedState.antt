@@ -34,13 +34,19 @@ module _ (w : ImageMeanings) (s : JoinedState) (right base : ℕ) (first : ℕ �
   pub last_mounted : last s.blocks ≡ base + length s.txns
   last_mounted = ap last m.blocks_are ∙ same_end
 
-  pub state_mounted : (calls : ℕ) → KeepsState w s (base + length s.txns) calls calls (record { number = base + length s.txns; calls = calls } ∷ [])
+  base_is : s.blocks.base ≡ base
+  base_is = ap (λ (u : BlockUses). u.base) m.blocks_are
+
+  pub state_mounted : (calls : ℕ) → KeepsState w s (base + length s.txns) calls calls (record { number = base + length s.txns; calls = calls } ∷ []) (record { number = base; calls = calls } ∷ [])
   state_mounted calls = record {
     used = used_mounted;
     txns_are = ap (λ (u : BlockUses). u.txns) m.blocks_are;
     data_from = ap (λ (u : BlockUses). u.first_data) m.blocks_are;
     named = λ k ge le. subst (HasLiveFiles s) (omega (arith, ge, le, settled_is, last_mounted)) m.files;
     marked = subst (λ (n : ℕ). AreMarks (base + length s.txns) calls n calls (record { number = base + length s.txns; calls = calls } ∷ [])) (sym settled_is) (first_mark (base + length s.txns) calls calls (omega arith));
+    noted = subst (λ (n : ℕ). AreMarks n calls s.based calls (record { number = base; calls = calls } ∷ [])) (sym base_is)
+        (subst (λ (n : ℕ). AreMarks base calls n calls (record { number = base; calls = calls } ∷ [])) (sym m.based_is) (first_mark base calls calls (omega arith)));
+    flushed = let low = used_mounted.marked in let firm = used_mounted.firm in omega (arith, m.based_is, base_is, low, firm);
   }
 
   pub trees_mounted : (trees : ℕ → Tree) (image : List (List ℕ)) (r : DiskRecord) → HoldsFoundState w s right base first others image r → StandsAfter s trees (base + length s.txns) (image_block image) → HoldsTrees w trees s r

@@ -31,8 +31,8 @@ stands_alike s trees k f g named same h = record {
   clear = clear_on (points_at s k) f g (agree_live s k f g named same) h.clear;
 }
 
-pub reads_live : (w : ImageMeanings) (s : JoinedState) (kept from calls : ℕ) (marks : List Mark) (trees : ℕ → Tree) → KeepsState w s kept from calls marks → ReadsLive (StandsAfter s trees) s.blocks
-reads_live w s kept from calls marks trees h k ge le f g same = stands_alike s trees k f g (h.named k ge le) same
+pub reads_live : (w : ImageMeanings) (s : JoinedState) (kept from calls : ℕ) (marks bases : List Mark) (trees : ℕ → Tree) → KeepsState w s kept from calls marks bases → ReadsLive (StandsAfter s trees) s.blocks
+reads_live w s kept from calls marks bases trees h k ge le f g same = stands_alike s trees k f g (h.named k ge le) same
 
 -- an image's own items are those of the state
 pub image_up_to : (w : ImageMeanings) (s : JoinedState) (trees : ℕ → Tree) (image : List (List ℕ)) (base : ℕ) (points : Points) (txns : NumberedItems) (k : ℕ) → w.Shows image base points txns → IsKeptIn w.sum w.first_data image base txns k
@@ -44,7 +44,7 @@ image_up_to w s trees image base points txns k shows kept sound same h = record 
   stands = subst (λ (m : Points). StandsClear m (image_block image) (trees k)) (sym same) h;
 }
 
-module _ (w : ImageMeanings) (trees : ℕ → Tree) (s : JoinedState) (kept from calls : ℕ) (marks : List Mark) (r : DiskRecord) (store : KeepsState w s kept from calls marks) (now : HoldsTrees w trees s r) where
+module _ (w : ImageMeanings) (trees : ℕ → Tree) (s : JoinedState) (kept from calls : ℕ) (marks bases : List Mark) (r : DiskRecord) (store : KeepsState w s kept from calls marks bases) (now : HoldsTrees w trees s r) where
   module _ (image : List (List ℕ)) (left : LeftNow r image) (base : ℕ) (points : Points) (txns : NumberedItems) (cut : IsShownCut s base points txns) where
     used : AreUses s.blocks
     used = store.used
@@ -75,35 +75,26 @@ module _ (w : ImageMeanings) (trees : ℕ → Tree) (s : JoinedState) (kept from
       ends : k ≤ base + length txns
       ends = omega (arith, is.most, mapped_length txns)
 
-      pub prefix_kept : (chance : NoBlockByChance w (cell_now r) image) (shows : w.Shows image base points txns) (sound : IsSoundFrom w s.blocks.settled image base points txns) → IsPrefixUpTo w trees (last s.blocks) marks calls image k
-      prefix_kept chance shows sound = record {
+      -- at whatever moment: what is settled is reached
+      pub prefix_kept : (m : ℕ) (chance : NoBlockByChance w (cell_now r) image) (shows : w.Shows image base points txns) (sound : IsSoundFrom w s.blocks.settled image base points txns) → IsPrefixUpTo w trees (last s.blocks) marks bases m image k
+      prefix_kept m chance shows sound = record {
         base = base;
         points = points;
         txns = txns;
         image_is = image_up_to w s trees image base points txns k shows is (sound k up is) (cut_points s used store.txns_are base points txns cut k is.least ends)
-            (reads_live w s kept from calls marks trees store k up within (bytes_now r) (image_block image) (λ b x e. sym (contents chance shows b x e)) (now.trees_are k up within));
+            (reads_live w s kept from calls marks bases trees store k up within (bytes_now r) (image_block image) (λ b x e. sym (contents chance shows b x e)) (now.trees_are k up within));
         within = within;
         settled = λ i mark got le. let m : mark.number ≤ s.blocks.settled = store.marked.settled_by i mark got in omega (arith, m, up);
+        based = λ i mark got le. let m : mark.number ≤ s.based = store.noted.settled_by i mark got in let low = cut.from in omega (arith, m, low);
       }
 
-    pub prefix_cut : (chance : NoBlockByChance w (cell_now r) image) (shows : w.Shows image base points txns) (sound : IsSoundFrom w s.blocks.settled image base points txns) → (k : ℕ) × IsPrefixUpTo w trees (last s.blocks) marks calls image k
+    pub prefix_cut : (chance : NoBlockByChance w (cell_now r) image) (shows : w.Shows image base points txns) (sound : IsSoundFrom w s.blocks.settled image base points txns) → (k : ℕ) × IsPrefixUpTo w trees (last s.blocks) marks bases calls image k
     prefix_cut chance shows sound =
         let found : (k : ℕ) × IsKeptIn w.sum w.first_data image base txns k = kept_exists (sum_found w.sum w.first_data image) base none_live (map txn_of txns) (txns_numbered s used store.txns_are base points txns cut) in
-        (found.0, prefix_kept found.0 found.1 chance shows sound)
+        (found.0, prefix_kept found.0 found.1 calls chance shows sound)
 
-  -- at whatever moment: what is settled is reached
-  pub prefix_any : (m n : ℕ) (image : List (List ℕ)) (k : ℕ) → s.blocks.settled ≤ k → IsPrefixUpTo w trees (last s.blocks) marks m image k → IsPrefixUpTo w trees (last s.blocks) marks n image k
-  prefix_any m n image k up p = record {
-    base = p.base;
-    points = p.points;
-    txns = p.txns;
-    image_is = p.image_is;
-    within = p.within;
-    settled = λ i mark got le. let a : mark.number ≤ s.blocks.settled = store.marked.settled_by i mark got in omega (arith, a, up);
-  }
-
-  pub prefix_now : ShowsCuts w s r → HoldsNow (LeavesPrefix w trees (last s.blocks) marks) r
+  pub prefix_now : ShowsCuts w s r → HoldsNow (LeavesPrefix w trees (last s.blocks) marks bases) r
   prefix_now shows image left chance =
       let found : (base : ℕ) × (points : Points) × (txns : NumberedItems) × w.Shows image base points txns × IsShownCut s base points txns × IsSoundFrom w s.blocks.settled image base points txns = shows image left chance.formed in
       let is : (k : ℕ) × IsKeptIn w.sum w.first_data image found.0 found.2 k = kept_exists (sum_found w.sum w.first_data image) found.0 none_live (map txn_of found.2) (txns_numbered s store.used store.txns_are found.0 found.1 found.2 found.4) in
-      (is.0, prefix_any calls (length r.calls) image is.0 (up image left found.0 found.1 found.2 found.4 is.0 is.1) (prefix_kept image left found.0 found.1 found.2 found.4 is.0 is.1 chance found.3 found.5))
+      (is.0, prefix_kept image left found.0 found.1 found.2 found.4 is.0 is.1 (length r.calls) chance found.3 found.5)

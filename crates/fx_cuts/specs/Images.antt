@@ -59,15 +59,17 @@ pub record IsImageUpTo (w : ImageMeanings) (image : List (List ℕ)) (base : ℕ
   pub stands : StandsClear (points_up_to points txns k) (image_block image) tree
   pub sound : w.IsSound image base points txns k
 
--- The transactions up to the number were settled by the flush that was the last of so many calls. The
--- first mark is the mount's: the number that it kept, and the calls before it.
+-- The transactions up to the number, or a superblock with this base count, were settled by the flush that
+-- was the last of so many calls. The first mark is the mount's: the number that it kept, or its base
+-- count, and the calls before it.
 pub record Mark : Type 0 where
   pub number : ℕ
   pub calls : ℕ
 
--- The image keeps the history up to the number, at least each mark that was made by the moment.
-pub record IsPrefixUpTo (w : ImageMeanings) (trees : ℕ → Tree) (most : ℕ) (marks : List Mark)
-    (m : ℕ) (image : List (List ℕ)) (k : ℕ) : Type 0 where
+-- The image keeps the history up to the number, at least each mark that was made by the moment. Its base
+-- count is no lower than that of any superblock that was settled by then.
+pub record IsPrefixUpTo (w : ImageMeanings) (trees : ℕ → Tree) (most : ℕ)
+    (marks bases : List Mark) (m : ℕ) (image : List (List ℕ)) (k : ℕ) : Type 0 where
   pub base : ℕ
   pub points : Points
   pub txns : NumberedItems
@@ -75,16 +77,19 @@ pub record IsPrefixUpTo (w : ImageMeanings) (trees : ℕ → Tree) (most : ℕ) 
   pub within : k ≤ most
   pub settled : (i : ℕ) (mark : Mark) → slice_get marks i ≡ Some mark → mark.calls ≤ m →
       mark.number ≤ k
+  pub based : (i : ℕ) (mark : Mark) → slice_get bases i ≡ Some mark → mark.calls ≤ m →
+      mark.number ≤ base
 
-abbrev pub LeavesPrefix : (w : ImageMeanings) → (ℕ → Tree) → ℕ → List Mark → (ℕ → Cell) → ℕ →
-    List (List ℕ) → Type 0
-LeavesPrefix w trees most marks cells m image = NoBlockByChance w cells image →
-    (k : ℕ) × IsPrefixUpTo w trees most marks m image k
+abbrev pub LeavesPrefix : (w : ImageMeanings) → (ℕ → Tree) → ℕ → (marks bases : List Mark) →
+    (ℕ → Cell) → ℕ → List (List ℕ) → Type 0
+LeavesPrefix w trees most marks bases cells m image = NoBlockByChance w cells image →
+    (k : ℕ) × IsPrefixUpTo w trees most marks bases m image k
 
 -- ---- which cuts an image may show
 
 -- A base count, what stands at each point there, and transactions after it: a cut of those of the state.
--- What stands at the base count is flushed, and the settled transactions are there.
+-- It begins no earlier than the last superblock that was settled. What stands at the base count is
+-- flushed, and the settled transactions are there.
 pub record IsShownCut (s : JoinedState) (base : ℕ) (points : Points) (txns : NumberedItems)
     : Type 0 where
   pub earlier : NumberedItems
@@ -92,6 +97,7 @@ pub record IsShownCut (s : JoinedState) (base : ℕ) (points : Points) (txns : N
   pub joined : s.txns ≡ earlier ++ (txns ++ later)
   pub base_is : base ≡ s.blocks.base + length earlier
   pub points_are : (p : Point) → points p ≡ points_at s base p
+  pub from : s.based ≤ base
   pub flushed : base ≤ s.blocks.firm
   pub reaches : s.blocks.settled ≤ base + length txns
 

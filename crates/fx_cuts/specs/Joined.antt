@@ -21,9 +21,15 @@ pub record JoinedState : Type 0 where
   pub opening : Points
   -- the transactions of `blocks`, with their items
   pub txns : NumberedItems
+  -- the base count of the last superblock that was settled: no image left now has a lower one
+  pub based : ℕ
 
 abbrev pub with_blocks : JoinedState → BlockUses → JoinedState
 with_blocks s u = record s { blocks = u }
+
+-- A superblock with this base count is settled.
+abbrev pub with_based : JoinedState → ℕ → JoinedState
+with_based s base = record s { based = base }
 
 -- what stands at each point after those of the transactions that are numbered at most `k`
 abbrev pub points_up_to : Points → NumberedItems → ℕ → Points

@@ -15,7 +15,7 @@ use Rattle.fx_cuts.specs.Joined.{JoinedState, NumberedItems, StandsAfter, HasLiv
 use Rattle.fx_cuts.specs.Images.{ImageMeanings, Mark, LeavesPrefix, IsSoundFrom}
 
 -- The first mark is of what the mount kept, numbers and calls rise, the last one is of what is settled,
--- and all were made by now.
+-- and all were made by now. The same of base counts, from the mount's to the one that is settled.
 pub record AreMarks (kept from settled calls : ℕ) (marks : List Mark) : Type 0 where
   pub first : slice_get marks 0 ≡ Some (record { number = kept; calls = from })
   pub rise : (i : ℕ) (a b : Mark) → slice_get marks i ≡ Some a → slice_get marks (i + 1) ≡ Some b →
@@ -27,12 +27,14 @@ pub record AreMarks (kept from settled calls : ℕ) (marks : List Mark) : Type 0
 
 -- What is kept whatever the disk tells.
 pub record KeepsState (w : ImageMeanings) (s : JoinedState) (kept from calls : ℕ)
-    (marks : List Mark) : Type 0 where
+    (marks bases : List Mark) : Type 0 where
   pub used : AreUses s.blocks
   pub txns_are : s.blocks.txns ≡ map txn_of s.txns
   pub data_from : s.blocks.first_data ≡ w.first_data
   pub named : (k : ℕ) → s.blocks.settled ≤ k → k ≤ last s.blocks → HasLiveFiles s k
   pub marked : AreMarks kept from s.blocks.settled calls marks
+  pub noted : AreMarks s.blocks.base from s.based calls bases
+  pub flushed : s.based ≤ s.blocks.firm
 
 -- What a disk that tells this holds now: the cells are as the uses want them, and what was put in the
 -- blocks stands for the tree after each number that an image may keep.
@@ -44,17 +46,17 @@ pub record HoldsTrees (w : ImageMeanings) (trees : ℕ → Tree) (s : JoinedStat
 
 -- That, and what it left at each moment since the mount began.
 pub record HoldsState (w : ImageMeanings) (trees : ℕ → Tree) (from : ℕ) (s : JoinedState)
-    (marks : List Mark) (r : DiskRecord) : Type 0 where
+    (marks bases : List Mark) (r : DiskRecord) : Type 0 where
   pub now : HoldsTrees w trees s r
   pub began : (b : ℕ) → cell_after r from b ≡ w.before b
-  pub always : Always (LeavesPrefix w trees (last s.blocks) marks) from r
+  pub always : Always (LeavesPrefix w trees (last s.blocks) marks bases) from r
 
 -- All of it, of a disk as it is seen. `trees` are the trees of the history, by their numbers; `kept` is
 -- the number that the mount kept, and `from` the calls before it.
 pub record KeepsJoined (w : ImageMeanings) (trees : ℕ → Tree) (kept from : ℕ) (s : JoinedState)
-    (marks : List Mark) (seen : DiskSeen) : Type 0 where
-  pub plain : KeepsState w s kept from seen.calls marks
-  pub told : IfSome seen.told (HoldsState w trees from s marks)
+    (marks bases : List Mark) (seen : DiskSeen) : Type 0 where
+  pub plain : KeepsState w s kept from seen.calls marks bases
+  pub told : IfSome seen.told (HoldsState w trees from s marks bases)
 
 -- The histories have the same trees up to the number.
 abbrev pub HasTreesOf : ℕ → (trees later : ℕ → Tree) → Type 0
@@ -85,9 +87,10 @@ ShowsFound w s beyond r = (image : List (List ℕ)) → LeftNow r image →
     IsSoundFrom w s.blocks.settled image s.blocks.base points txns
 
 pub record KeepsMounting (w : ImageMeanings) (trees : ℕ → Tree) (kept from : ℕ) (s : JoinedState)
-    (beyond : NumberedItems) (marks : List Mark) (seen : DiskSeen) : Type 0 where
-  pub plain : KeepsState w s kept from seen.calls marks
+    (beyond : NumberedItems) (marks bases : List Mark) (seen : DiskSeen) : Type 0 where
+  pub plain : KeepsState w s kept from seen.calls marks bases
+  pub first : s.based ≡ s.blocks.base
   pub whole : s.blocks.settled ≡ last s.blocks
   pub numbered : AreNumbered s.blocks.base (map txn_of (s.txns ++ beyond))
-  pub told : IfSome seen.told (λ r. HoldsState w trees from s marks r ×
+  pub told : IfSome seen.told (λ r. HoldsState w trees from s marks bases r ×
       ((entry : List (List ℕ)) × DropsBeyond w s beyond entry r))

@@ -8,12 +8,13 @@ use Rattle.fx_kept.specs.Opened.{AreOthers, HoldsImage, opened_use, opened_uses}
 use Rattle.fx_cuts.specs.Joined.{JoinedState, HasLiveFiles}
 use Rattle.fx_cuts.specs.Images.{ImageMeanings}
 
--- The state has the transactions that are kept, numbered from the base count on, and the uses of blocks
--- that they leave. `first` says what was live before them, and `others` what the blocks that are not live
+-- The state has the transactions that are kept, numbered from the base count on, which is that of the
+-- superblock, and the uses of blocks that they leave. `first` says what was live before them, and `others` what the blocks that are not live
 -- are used for.
 pub record IsFoundState (w : ImageMeanings) (s : JoinedState) (right base : ℕ)
     (first : ℕ → Option ℕ) (others : ℕ → Use) : Type 0 where
   pub blocks_are : s.blocks ≡ opened_uses w.first_data right first base (map txn_of s.txns) others
+  pub based_is : s.based ≡ base
   pub numbered : AreNumbered base (map txn_of s.txns)
   pub others_are : AreOthers w.first_data others
   pub right_most : right ≤ base

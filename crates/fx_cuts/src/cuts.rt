@@ -35,20 +35,21 @@ pub trait ImageReader {
 /// the one on all loose live blocks. The image's own items after each number of the cut are those of the
 /// state.
 pub fn cuts_in_images<W: ImageReader>()
-    ensures prefix { (trees : ℕ → Tree) (s : JoinedState) (kept from calls : ℕ) (marks : List Mark)
-        (r : DiskRecord) → KeepsState W.means s kept from calls marks →
-        HoldsTrees W.means trees s r → (image : List (List ℕ)) → LeftNow r image →
-        NoBlockByChance W.means (cell_now r) image → (base : ℕ) (points : Points)
-        (txns : NumberedItems) → W.means.Shows image base points txns →
+    ensures prefix { (trees : ℕ → Tree) (s : JoinedState) (kept from calls : ℕ)
+        (marks bases : List Mark) (r : DiskRecord) →
+        KeepsState W.means s kept from calls marks bases → HoldsTrees W.means trees s r →
+        (image : List (List ℕ)) → LeftNow r image → NoBlockByChance W.means (cell_now r) image →
+        (base : ℕ) (points : Points) (txns : NumberedItems) → W.means.Shows image base points txns →
         IsShownCut s base points txns →
-        IsSoundFrom W.means s.blocks.settled image base points txns →
-        (k : ℕ) × IsPrefixUpTo W.means trees (last s.blocks) marks calls image k }
-    ensures between { (trees : ℕ → Tree) (s : JoinedState) (kept from calls : ℕ) (marks : List Mark)
-        (r : DiskRecord) → KeepsState W.means s kept from calls marks →
-        HoldsTrees W.means trees s r → (image : List (List ℕ)) → LeftNow r image →
-        (base : ℕ) (points : Points) (txns : NumberedItems) → IsShownCut s base points txns →
-        (k : ℕ) → IsKeptIn W.means.sum W.means.first_data image base txns k →
-        (s.blocks.settled ≤ k) × (k ≤ last s.blocks) }
+        IsSoundFrom W.means s.blocks.settled image base points txns → (k : ℕ) × IsPrefixUpTo W.means
+        trees (last s.blocks) marks bases calls image k }
+    ensures between { (trees : ℕ → Tree) (s : JoinedState) (kept from calls : ℕ)
+        (marks bases : List Mark) (r : DiskRecord) →
+        KeepsState W.means s kept from calls marks bases → HoldsTrees W.means trees s r →
+        (image : List (List ℕ)) → LeftNow r image → (base : ℕ) (points : Points)
+        (txns : NumberedItems) → IsShownCut s base points txns → (k : ℕ) →
+        IsKeptIn W.means.sum W.means.first_data image base txns k → (s.blocks.settled ≤ k) ×
+        (k ≤ last s.blocks) }
     ensures one { (image : List (List ℕ)) (base : ℕ) (points : Points) (txns : NumberedItems)
         (j k : ℕ) (t u : Tree) → IsImageUpTo W.means image base points txns j t →
         IsImageUpTo W.means image base points txns k u → (j ≡ k) × (t ≡ u) }
@@ -57,20 +58,21 @@ pub fn cuts_in_images<W: ImageReader>()
         IsImageUpTo W.means image b q us k u → (j ≡ k) × (t ≡ u) }
     ensures premise { (cells : ℕ → Cell) (image : List (List ℕ)) →
         NoLiveBlockByChance W.means cells image → NoBlockByChance W.means cells image }
-    ensures items { (s : JoinedState) (kept from calls : ℕ) (marks : List Mark) →
-        KeepsState W.means s kept from calls marks → (base : ℕ) (points : Points)
+    ensures items { (s : JoinedState) (kept from calls : ℕ) (marks bases : List Mark) →
+        KeepsState W.means s kept from calls marks bases → (base : ℕ) (points : Points)
         (txns : NumberedItems) → IsShownCut s base points txns → (k : ℕ) → base ≤ k →
         k ≤ base + length txns → points_up_to points txns k ≡ points_at s k }
 {}
 
-/// Which cuts there are: the superblock of the mount with the first of the transactions, and one with a later
-/// base count that is flushed.
+/// Which cuts there are: the superblock of the mount with the first of the transactions, before a checkpoint,
+/// and one with a later base count that is flushed, no lower than the last that was settled.
 pub fn shown_cuts()
     ensures front { (s : JoinedState) (txns later : NumberedItems) → AreUses s.blocks →
-        s.blocks.txns ≡ map txn_of s.txns → s.txns ≡ txns ++ later →
+        s.based ≤ s.blocks.base → s.blocks.txns ≡ map txn_of s.txns → s.txns ≡ txns ++ later →
         s.blocks.settled ≤ s.blocks.base + length txns → IsShownCut s s.blocks.base s.opening txns }
     ensures later { (s : JoinedState) (earlier txns later : NumberedItems) →
-        s.txns ≡ earlier ++ (txns ++ later) → s.blocks.base + length earlier ≤ s.blocks.firm →
+        s.txns ≡ earlier ++ (txns ++ later) → s.based ≤ s.blocks.base + length earlier →
+        s.blocks.base + length earlier ≤ s.blocks.firm →
         s.blocks.settled ≤ s.blocks.base + length earlier + length txns →
         IsShownCut s (s.blocks.base + length earlier)
         (points_at s (s.blocks.base + length earlier)) txns }
@@ -85,20 +87,21 @@ pub fn cuts_by_layers<L: LayerMeaning>()
         CellsHold sum s.blocks r → LeftNow r image →
         IsNamed L.means s.blocks r reader (s.blocks.base + length earlier) firsts blocks said →
         points_in said ≡ points_at s (s.blocks.base + length earlier) →
-        s.txns ≡ earlier ++ (txns ++ later) →
+        s.txns ≡ earlier ++ (txns ++ later) → s.based ≤ s.blocks.base + length earlier →
         s.blocks.settled ≤ s.blocks.base + length earlier + length txns →
         L.means.Says (image_block image) firsts blocks said ×
         IsShownCut s (s.blocks.base + length earlier) (points_in said) txns }
 {}
 
 /// What a mount finds begins the state: the transactions that the image keeps, from its base count on, with
-/// the items and the uses of blocks that they leave. The one mark is of the number that is kept. Where
-/// nothing is loose and the image stands for the tree there, what the blocks hold does.
+/// the items and the uses of blocks that they leave. The one mark is of the number that is kept, and of its
+/// base count. Where nothing is loose and the image stands for the tree there, what the blocks hold does.
 pub fn mounted_state<W: ImageReader>()
     ensures state { (s : JoinedState) (right base calls : ℕ) (first : ℕ → Option ℕ)
         (others : ℕ → Use) → IsFoundState W.means s right base first others →
         KeepsState W.means s (base + length s.txns) calls calls
-        (record { number = base + length s.txns; calls = calls } ∷ []) }
+        (record { number = base + length s.txns; calls = calls } ∷ [])
+        (record { number = base; calls = calls } ∷ []) }
     ensures trees { (trees : ℕ → Tree) (s : JoinedState) (right base : ℕ) (first : ℕ → Option ℕ)
         (others : ℕ → Use) (image : List (List ℕ)) (r : DiskRecord) →
         IsFoundState W.means s right base first others →

@@ -21,30 +21,29 @@ use crate::cuts::ImageReader;
 /// end of the mount, and the state goes on from there.
 pub fn while_dropping<W: ImageReader>()
     ensures begin { (trees : ℕ → Tree) (kept : ℕ) (s : JoinedState) (beyond : NumberedItems)
-        (marks : List Mark) (seen : DiskSeen) →
+        (marks bases : List Mark) (seen : DiskSeen) →
         IfSome seen.told (IsRecordOf seen.size seen.calls) →
-        KeepsState W.means s kept seen.calls seen.calls marks → s.blocks.settled ≡ last s.blocks →
-        AreNumbered s.blocks.base (map txn_of (s.txns ++ beyond)) →
-        IfSome seen.told (λ r. HoldsTrees W.means trees s r ×
-        ((b : ℕ) → cell_after r seen.calls b ≡ W.means.before b) ×
-        ((entry : List (List ℕ)) × DropsBeyond W.means s beyond entry r) ×
-        ShowsFound W.means s beyond r) →
-        KeepsMounting W.means trees kept seen.calls s beyond marks seen }
+        KeepsState W.means s kept seen.calls seen.calls marks bases →
+        s.blocks.settled ≡ last s.blocks → s.based ≡ s.blocks.base →
+        AreNumbered s.blocks.base (map txn_of (s.txns ++ beyond)) → IfSome seen.told (λ r.
+        HoldsTrees W.means trees s r × ((b : ℕ) → cell_after r seen.calls b ≡ W.means.before b) ×
+        ((entry : List (List ℕ)) × DropsBeyond W.means s beyond entry r) × ShowsFound W.means s
+        beyond r) → KeepsMounting W.means trees kept seen.calls s beyond marks bases seen }
     ensures write { (trees : ℕ → Tree) (kept from : ℕ) (s : JoinedState) (beyond : NumberedItems)
-        (marks : List Mark) (before after : DiskSeen) (ok : Bool) →
+        (marks bases : List Mark) (before after : DiskSeen) (ok : Bool) →
         IfSome before.told (IsRecordOf before.size before.calls) →
-        KeepsMounting W.means trees kept from s beyond marks before → (at : ℕ) (put : List ℕ) →
-        at < W.means.first_data → HasWritten before after at put ok →
+        KeepsMounting W.means trees kept from s beyond marks bases before → (at : ℕ)
+        (put : List ℕ) → at < W.means.first_data → HasWritten before after at put ok →
         IfSome after.told (ShowsFound W.means s beyond) →
-        KeepsMounting W.means trees kept from s beyond marks after }
+        KeepsMounting W.means trees kept from s beyond marks bases after }
     ensures flush { (trees : ℕ → Tree) (kept from : ℕ) (s : JoinedState) (beyond : NumberedItems)
-        (marks : List Mark) (before after : DiskSeen) (ok : Bool) →
+        (marks bases : List Mark) (before after : DiskSeen) (ok : Bool) →
         IfSome before.told (IsRecordOf before.size before.calls) →
-        KeepsMounting W.means trees kept from s beyond marks before →
+        KeepsMounting W.means trees kept from s beyond marks bases before →
         HasFlushed before after ok → IfSome after.told (ShowsFound W.means s beyond) →
-        KeepsMounting W.means trees kept from s beyond marks after }
+        KeepsMounting W.means trees kept from s beyond marks bases after }
     ensures ends { (trees : ℕ → Tree) (kept from : ℕ) (s : JoinedState) (beyond : NumberedItems)
-        (marks : List Mark) (seen : DiskSeen) →
-        KeepsMounting W.means trees kept from s beyond marks seen →
-        KeepsJoined W.means trees kept from s marks seen }
+        (marks bases : List Mark) (seen : DiskSeen) →
+        KeepsMounting W.means trees kept from s beyond marks bases seen →
+        KeepsJoined W.means trees kept from s marks bases seen }
 {}

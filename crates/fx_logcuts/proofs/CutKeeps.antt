@@ -13,7 +13,7 @@ use Rattle.fx_record.proofs.Sessions.{stopped_session}
 use Rattle.fx_journal.specs.Ring.{Queued, texts}
 use Rattle.fx_log.specs.Ring.{as_stream}
 use Rattle.fx_logcuts.specs.Cuts.{AreAppended, CutsAt, ShowsCommits, pieces_in}
-use Rattle.fx_logcuts.proofs.CutParts.{Lists, past-cut, text_in, texts-joined, texts-parts}
+use Rattle.fx_logcuts.proofs.CutParts.{Lists, past-cut, take-parts, text_in, texts-joined, texts-parts, texts-short}
 
 texts-are_joined : (blocks : List Queued) → texts blocks ≡ concat (map text_in blocks)
 texts-are_joined [] = refl
@@ -22,28 +22,6 @@ texts-are_joined (q ∷ qs) = ap (λ (w : List ℕ). q.text ++ w) (texts-are_joi
 pieces-are : (epoch : ℕ) (blocks : List Queued) → pieces_in (as_stream epoch blocks) ≡ blocks_of epoch (map text_in blocks)
 pieces-are epoch [] = refl
 pieces-are epoch (q ∷ qs) = ap (λ (w : List (ℕ × List ℕ)). (epoch, q.text) ∷ w) (pieces-are epoch qs)
-
--- the texts of fewer blocks are no longer
-texts-short : (blocks : List Queued) (m n : ℕ) → m ≤ n → length (texts (take m blocks)) ≤ length (texts (take n blocks))
-texts-short [] zero zero le = omega arith
-texts-short [] zero (suc n) le = omega arith
-texts-short [] (suc m) zero le = absurd (omega (arith, le))
-texts-short [] (suc m) (suc n) le = omega arith
-texts-short (q ∷ qs) zero n le = omega arith
-texts-short (q ∷ qs) (suc m) zero le = absurd (omega (arith, le))
-texts-short (q ∷ qs) (suc m) (suc n) le =
-    omega (arith, texts-short qs m n (omega (arith, le)), length-append q.text (texts (take m qs)), length-append q.text (texts (take n qs)))
-
--- the first elements, and then the first of the others
-module _ {X : Type 0} where
-  take-none : (k : ℕ) → take {A = X} k [] ≡ []
-  take-none zero = refl
-  take-none (suc k) = refl
-
-  take-parts : (n k : ℕ) (xs : List X) → take (n + k) xs ≡ take n xs ++ take k (drop n xs)
-  take-parts zero k xs = ap (λ (m : ℕ). take m xs) (omega arith)
-  take-parts (suc n) k [] = take-none (suc n + k) ∙ sym (take-none k)
-  take-parts (suc n) k (x ∷ xs) = let e : suc n + k ≡ suc (n + k) = omega arith in ap (λ (m : ℕ). take m (x ∷ xs)) e ∙ ap (λ (ys : List X). x ∷ ys) (take-parts n k xs)
 
 all-drop : (n : ℕ) (xs : Lists) → All IsCommit xs → All IsCommit (drop n xs)
 all-drop zero xs h = h

@@ -9,10 +9,13 @@ ghost use Rattle.fx_item.specs.Item.{PlainItem};
 ghost use Rattle.fx_record.specs.Commits.{commits_bytes};
 ghost use Rattle.fx_journal.specs.Ring.{Queued, texts};
 ghost use Rattle.fx_log.specs.Ring.{as_stream};
-ghost use Rattle.fx_logcuts.specs.Cuts.{AreAppended, CutsAt, ShowsCommits};
+ghost use Rattle.fx_supers.specs.SessionLog.{IsNoEarlier};
+ghost use Rattle.fx_supers.specs.Supers.{SuperCut};
+ghost use Rattle.fx_logcuts.specs.Cuts.{AreAppended, CutsAt, IsCutSuper, ShowsCommits};
 
 /// After all that was appended, with nothing unfinished, there is a cut. A cut stays one while blocks
-/// are closed and commits are made, and past it lie just the commits after it.
+/// are closed and commits are made, and past it lie just the commits after it. A later cut is behind no
+/// fewer commits; so a superblock whose stream begins no earlier has no lower base.
 pub fn cut_laws()
     ensures now { (opened : List ℕ) (last : ℕ) (blocks : List Queued)
         (commits : List (List PlainItem)) → AreAppended opened last blocks [] commits →
@@ -25,6 +28,15 @@ pub fn cut_laws()
         (commits : List (List PlainItem)) (n count : ℕ) →
         AreAppended opened last blocks text commits → CutsAt opened last blocks commits n count →
         texts (drop n blocks) ++ text ≡ commits_bytes (last + count) (drop count commits) }
+    ensures rises { (opened : List ℕ) (last : ℕ) (blocks : List Queued)
+        (commits : List (List PlainItem)) (n m count other : ℕ) →
+        CutsAt opened last blocks commits n count → CutsAt opened last blocks commits m other →
+        n ≤ m → count ≤ other }
+    ensures bases { (opened : List ℕ) (last : ℕ) (blocks : List Queued)
+        (commits : List (List PlainItem)) (former latter : SuperCut) →
+        IsCutSuper opened last blocks commits former →
+        IsCutSuper opened last blocks commits latter →
+        IsNoEarlier former.origin latter.origin → former.super.base ≤ latter.super.base }
 {}
 
 /// The stream from a cut leaves the commits after it, as far as its blocks stand. Where the records of

@@ -61,9 +61,9 @@ module _ (sum : List ℕ → ℕ) (first_data size : ℕ) (ample : Type 0) (befo
         sound.room f shows.chosen,
       )
 
-  pub names-prefix : (tree : Tree) (base from m k : ℕ) (history : List Entry) (marks : List Mark) (image : List (List ℕ)) → HaveEntries base from history marks → from ≤ m
-      → IsPrefixUpTo (names_meanings sum first_data size ample before generation) (bare_trees tree history) (base + length history) marks m image k → IsPrefix size ample tree base history m image
-  names-prefix tree base from m k history marks image have ge h =
+  pub names-prefix : (tree : Tree) (base from m k : ℕ) (history : List Entry) (marks bases : List Mark) (image : List (List ℕ)) → HaveEntries base from history marks → from ≤ m
+      → IsPrefixUpTo (names_meanings sum first_data size ample before generation) (bare_trees tree history) (base + length history) marks bases m image k → IsPrefix size ample tree base history m image
+  names-prefix tree base from m k history marks bases image have ge h =
       let is = names-image image h.base h.points h.txns k (bare_trees tree history k) h.image_is in
       record {
         super = is.0;
@@ -90,12 +90,12 @@ module _ (sum : List ℕ → ℕ) (first_data size : ℕ) (ample : Type 0) (befo
 
 -- ---- at every moment
 
-pub names-keep : (sum : List ℕ → ℕ) (first_data size from : ℕ) (tree : Tree) (base : ℕ) (history : List Entry) (marks : List Mark) (r : DiskRecord) → from ≤ length r.calls → HaveEntries base from history marks
+pub names-keep : (sum : List ℕ → ℕ) (first_data size from : ℕ) (tree : Tree) (base : ℕ) (history : List Entry) (marks bases : List Mark) (r : DiskRecord) → from ≤ length r.calls → HaveEntries base from history marks
     → ((image : List (List ℕ)) (f : Fields) (txns : Transactions) → Began size from base tree r image f txns →
-    Always (LeavesPrefix (names_meanings sum first_data size (HasAmpleRoom f txns) (cell_after r from) f.generation) (bare_trees tree history) (base + length history) marks) from r
+    Always (LeavesPrefix (names_meanings sum first_data size (HasAmpleRoom f txns) (cell_after r from) f.generation) (bare_trees tree history) (base + length history) marks bases) from r
     × WritesNever (names_meanings sum first_data size (HasAmpleRoom f txns) (cell_after r from) f.generation) from r)
     → KeepsPrefix size from tree base history r
-names-keep sum first_data size from tree base history marks r since have all = record {
+names-keep sum first_data size from tree base history marks bases r since have all = record {
   since = since;
   always = λ image f txns began.
       let both = all image f txns began in
@@ -104,6 +104,6 @@ names-keep sum first_data size from tree base history marks r since have all = r
         each = λ m left ge le is chance.
             let p = both.0.each m left ge le is (names-chance sum first_data size (HasAmpleRoom f txns) (cell_after r from) f.generation (cell_at r m) left chance
             (both.1.each m left ge le is (forms-from_chance (cell_after r from) (cell_at r m) f.generation left chance))) in
-            names-prefix sum first_data size (HasAmpleRoom f txns) (cell_after r from) f.generation tree base from m p.0 history marks left have ge p.1;
+            names-prefix sum first_data size (HasAmpleRoom f txns) (cell_after r from) f.generation tree base from m p.0 history marks bases left have ge p.1;
       };
 }

@@ -33,10 +33,10 @@ pub fn names_as_image()
         IsImage size image f txns tree × (HasAmpleRoom super found → HasSessionRoom f txns) }
     ensures prefix { (sum : List ℕ → ℕ) (first_data size : ℕ) (super : Fields)
         (found : Transactions) (before : ℕ → Cell) (generation : ℕ) (tree : Tree)
-        (base from m k : ℕ) (history : List Entry) (marks : List Mark) (image : List (List ℕ)) →
-        HaveEntries base from history marks → from ≤ m → IsPrefixUpTo
+        (base from m k : ℕ) (history : List Entry) (marks bases : List Mark)
+        (image : List (List ℕ)) → HaveEntries base from history marks → from ≤ m → IsPrefixUpTo
         (names_meanings sum first_data size (HasAmpleRoom super found) before generation)
-        (bare_trees tree history) (base + length history) marks m image k →
+        (bare_trees tree history) (base + length history) marks bases m image k →
         IsPrefix size (HasAmpleRoom super found) tree base history m image }
     ensures chance { (sum : List ℕ → ℕ) (first_data size : ℕ) (super : Fields)
         (found : Transactions) (before cells : ℕ → Cell) (generation : ℕ)
@@ -52,11 +52,11 @@ pub fn names_as_image()
 /// leaves of one with blocks, where no transaction writes a block: at each moment since the mount.
 pub fn prefix_of_names()
     ensures keeps { (sum : List ℕ → ℕ) (first_data size from : ℕ) (tree : Tree) (base : ℕ)
-        (history : List Entry) (marks : List Mark) (r : DiskRecord) → from ≤ length r.calls →
+        (history : List Entry) (marks bases : List Mark) (r : DiskRecord) → from ≤ length r.calls →
         HaveEntries base from history marks → ((image : List (List ℕ)) (f : Fields)
         (txns : Transactions) → Began size from base tree r image f txns → Always (LeavesPrefix
         (names_meanings sum first_data size (HasAmpleRoom f txns) (cell_after r from) f.generation)
-        (bare_trees tree history) (base + length history) marks) from r × WritesNever
+        (bare_trees tree history) (base + length history) marks bases) from r × WritesNever
         (names_meanings sum first_data size (HasAmpleRoom f txns) (cell_after r from) f.generation)
         from r) → KeepsPrefix size from tree base history r }
 {}

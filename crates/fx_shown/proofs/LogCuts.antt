@@ -26,7 +26,7 @@ use Rattle.fx_supers.specs.Shown.{ShowsCut, ShowsLog, ShowsRun}
 use Rattle.fx_supers.specs.SessionLog.{HoldsLog, IsSessionLog, KeepsLog, SessionLog, epoch_of, first_in, read_in}
 use Rattle.fx_supers.proofs.LogShown.{shows-log}
 use Rattle.fx_logcuts.specs.Cuts.{ShowsCommits, pieces_in}
-use Rattle.fx_logcuts.proofs.CutParts.{text_in, texts-parts}
+use Rattle.fx_logcuts.proofs.CutParts.{text_in, texts-parts, texts-short}
 use Rattle.fx_logcuts.proofs.CutKeeps.{shows-commits}
 use Rattle.fx_kept.specs.Chance.{HasMeantForms}
 use Rattle.fx_uses.specs.Uses.{AreUses}
@@ -34,7 +34,7 @@ use Rattle.fx_cuts.specs.Joined.{JoinedState, points_at}
 use Rattle.fx_cuts.specs.Images.{IsShownCut, ShowsCuts}
 use Rattle.fx_shown.specs.Forms.{log_forms}
 use Rattle.fx_shown.specs.Meanings.{LayerReading, ShowsTxns, log_meanings}
-use Rattle.fx_shown.specs.LogTxns.{LogTxns, HasLogTxns, IsLogState, IsSuperIn, HasMountBase, HasLaterBase, HaveBases, LayersSayNow, AreSoundNow, last_kept}
+use Rattle.fx_shown.specs.LogTxns.{LogTxns, HasLogTxns, IsLogState, IsSuperIn, HasMountBase, HasLaterBase, HaveBases, HaveNoLowerBase, LayersSayNow, AreSoundNow, last_kept}
 use Rattle.fx_shown.proofs.ChanceForms.{chance-from_forms}
 use Rattle.fx_shown.proofs.StreamLeft.{Lists, Txns, Leaves, stream-leaves}
 
@@ -51,16 +51,6 @@ pieces-of epoch (q ∷ qs) = ap (λ (w : List (ℕ × List ℕ)). (epoch, q.text
 pieces-joined : (read : List StreamBlock) (epoch : ℕ) (blocks : List Queued) → pieces_in (read ++ as_stream epoch blocks) ≡ pieces_in read ++ blocks_of epoch (map text_in blocks)
 pieces-joined [] epoch blocks = pieces-of epoch blocks
 pieces-joined (b ∷ bs) epoch blocks = ap (λ (w : List (ℕ × List ℕ)). (b.epoch, b.records) ∷ w) (pieces-joined bs epoch blocks)
-
-pub texts-short : (blocks : List Queued) (m n : ℕ) → m ≤ n → length (texts (take m blocks)) ≤ length (texts (take n blocks))
-texts-short [] zero zero le = omega arith
-texts-short [] zero (suc n) le = omega arith
-texts-short [] (suc m) zero le = absurd (omega (arith, le))
-texts-short [] (suc m) (suc n) le = omega arith
-texts-short (q ∷ qs) zero n le = omega arith
-texts-short (q ∷ qs) (suc m) zero le = absurd (omega (arith, le))
-texts-short (q ∷ qs) (suc m) (suc n) le =
-    omega (arith, texts-short qs m n (omega (arith, le)), length-append q.text (texts (take m qs)), length-append q.text (texts (take n qs)))
 
 -- what was read at the mount has no later epoch than the generation
 series-before : (generation : ℕ) (start next : Start) (read : List StreamBlock) → IsSeries generation start read next → AreBefore (generation + 1) (pieces_in read)
@@ -144,8 +134,8 @@ module _ (l : LayerReading) (log : SessionLog) (t : LogTxns) (is : IsSessionLog 
     abbrev pub ShowsOne : Fields → Type 0
     ShowsOne super = (txns : Txns) × ShowsTxns l image super.base (points_at s super.base) txns × IsShownCut s super.base (points_at s super.base) txns
 
-    cut-first : (cut : SuperCut) → HasMountBase log cut → ShowsCut log image cut → l.LayersSay image cut.super (points_at s cut.super.base) → ShowsOne cut.super
-    cut-first cut m c says =
+    cut-first : (cut : SuperCut) → s.based ≤ cut.super.base → HasMountBase log cut → ShowsCut log image cut → l.LayersSay image cut.super (points_at s cut.super.base) → ShowsOne cut.super
+    cut-first cut above m c says =
         let run = run-first image cut m c in
         let stood : List Queued = take run.count log.tail.blocks in
         let left = leaves run.count in
@@ -168,6 +158,7 @@ module _ (l : LayerReading) (log : SessionLog) (t : LogTxns) (is : IsSessionLog 
                   joined = all;
                   base_is = omega (arith, m.base, of.base);
                   points_are = λ p. refl;
+                  from = above;
                   flushed = omega (arith, m.base, of.base, used.marked, used.firm);
                   reaches = omega (arith, m.base, of.settled, reached, sized);
                 })
@@ -178,8 +169,8 @@ module _ (l : LayerReading) (log : SessionLog) (t : LogTxns) (is : IsSessionLog 
     run-later : (cut : SuperCut) (n : ℕ) → cut.origin ≡ Some n → ShowsCut log image cut → ShowsRun image cut.super.ring epoch cut.super.generation (start_of cut.super) [] log.tail.blocks n log.tail.settled
     run-later cut n e c = subst (λ (o : Origin). ShowsRun image cut.super.ring epoch cut.super.generation (start_of cut.super) (read_in log.head o) log.tail.blocks (first_in o) log.tail.settled) e c.run
 
-    cut-later : (cut : SuperCut) → HasLaterBase s log t cut → ShowsCut log image cut → l.LayersSay image cut.super (points_at s cut.super.base) → ShowsOne cut.super
-    cut-later cut h c says =
+    cut-later : (cut : SuperCut) → s.based ≤ cut.super.base → HasLaterBase s log t cut → ShowsCut log image cut → l.LayersSay image cut.super (points_at s cut.super.base) → ShowsOne cut.super
+    cut-later cut above h c says =
         let k = h.cut_is in
         let run = run-later cut k.n k.origin c in
         let kept : ShowsCommits (last + k.count) (as_stream epoch (take run.count (drop k.n log.tail.blocks))) t.commits k.count marks =
@@ -213,14 +204,15 @@ module _ (l : LayerReading) (log : SessionLog) (t : LogTxns) (is : IsSessionLog 
             joined = all;
             base_is = omega (arith, k.base, of.base, before);
             points_are = λ p. refl;
+            from = above;
             flushed = h.flushed;
             reaches = let least = kept.least in omega (arith, k.base, of.settled, least, sized);
           },
         )
 
-    pub cut-either : (cut : SuperCut) → HasMountBase log cut ⊎ HasLaterBase s log t cut → ShowsCut log image cut → l.LayersSay image cut.super (points_at s cut.super.base) → ShowsOne cut.super
-    cut-either cut (inl m) c says = cut-first cut m c says
-    cut-either cut (inr h) c says = cut-later cut h c says
+    pub cut-either : (cut : SuperCut) → s.based ≤ cut.super.base → HasMountBase log cut ⊎ HasLaterBase s log t cut → ShowsCut log image cut → l.LayersSay image cut.super (points_at s cut.super.base) → ShowsOne cut.super
+    cut-either cut above (inl m) c says = cut-first cut above m c says
+    cut-either cut above (inr h) c says = cut-later cut above h c says
 
 -- ---- each image left now
 
@@ -243,13 +235,13 @@ abbrev pub ShowsCutsNow : LayerReading → (ℕ → Cell) → JoinedState → Se
 ShowsCutsNow l before s log r = (first : List (List ℕ)) → BeganAs r log.from first → ((b : ℕ) → cell_after r log.from b ≡ before b) → LayersSayNow l s log r
     → AreSoundNow (log_meanings l before log.head.super.generation) s r → ShowsCuts (log_meanings l before log.head.super.generation) s r
 
-pub log-shows_cuts : (l : LayerReading) (before : ℕ → Cell) (s : JoinedState) (log : SessionLog) (t : LogTxns) (marks : ℕ) (seen : DiskSeen) → HoldsLog log seen → HasLogTxns log t → IsLogState s log t marks → HaveBases s log t → AreUses s.blocks → IfSome seen.told (ShowsCutsNow l before s log)
-log-shows_cuts l before s log t marks seen h has of bases used = when-told (KeepsLog log) (ShowsCutsNow l before s log) seen.told now h.told
+pub log-shows_cuts : (l : LayerReading) (before : ℕ → Cell) (s : JoinedState) (log : SessionLog) (t : LogTxns) (marks : ℕ) (seen : DiskSeen) → HoldsLog log seen → HasLogTxns log t → IsLogState s log t marks → HaveBases s log t → HaveNoLowerBase s log → AreUses s.blocks → IfSome seen.told (ShowsCutsNow l before s log)
+log-shows_cuts l before s log t marks seen h has of bases above used = when-told (KeepsLog log) (ShowsCutsNow l before s log) seen.told now h.told
   where
     now : (r : DiskRecord) → KeepsLog log r → ShowsCutsNow l before s log r
     now r keeps first began same says sound image left formed =
         let c = shown-now before log h.log_is r keeps first began same image left formed in
-        let one = cut-either l log t h.log_is has s marks of used image c.0 (bases c.0 c.1) c.2 (says c.0 c.1 image left c.2.chosen) in (
+        let one = cut-either l log t h.log_is has s marks of used image c.0 (above c.0 c.1) (bases c.0 c.1) c.2 (says c.0 c.1 image left c.2.chosen) in (
           c.0.super.base,
           points_at s c.0.super.base,
           one.0,

@@ -1,6 +1,6 @@
 -- The state beside a log and its transactions, over what happens to them.
-use Rattle.std.proofs.Common.{◌≡◌, ℕ, ◌+◌, ◌≤◌, inl, inr, List, [], ◌∷◌, ◌++◌, length, take, sym, subst, ◌∙◌, ap, arith, append_assoc, append-nil, length-append}
-use Rattle.std.specs.Prelude.{Bool, Some, max}
+use Rattle.std.proofs.Common.{◌≡◌, ℕ, ◌+◌, ◌≤◌, inl, inr, refl, List, [], ◌∷◌, ◌++◌, length, take, sym, subst, ◌∙◌, ap, arith, append_assoc, append-nil, length-append}
+use Rattle.std.specs.Prelude.{◌⊎◌, Bool, None, Some, max}
 use Rattle.std.proofs.lemmas.List.{take-append-le}
 use Rattle.std.proofs.Math.Seq.{take-length}
 use Rattle.fx_item.specs.Item.{PlainItem}
@@ -9,13 +9,13 @@ use Rattle.fx_record.proofs.Commits.{numbered-append}
 use Rattle.fx_journal.specs.Ring.{Queued, texts}
 use Rattle.fx_super.specs.declared.choice.Which.{Which}
 use Rattle.fx_log.specs.Log.{LogHead, IsWrittenOut}
-use Rattle.fx_supers.specs.Supers.{SuperCut}
-use Rattle.fx_supers.specs.SessionLog.{IsSessionLog, SessionLog, closed_session, finished_session, first_in, flushed_session, new_session, put_session, written_session}
+use Rattle.fx_supers.specs.Supers.{Origin, SuperCut}
+use Rattle.fx_supers.specs.SessionLog.{IsNoEarlier, IsSessionLog, MayCome, SessionLog, closed_session, finished_session, first_in, flushed_session, new_session, put_session, written_session}
 use Rattle.fx_logcuts.specs.Cuts.{CutsAt}
-use Rattle.fx_logcuts.proofs.CutParts.{Lists, cut-now, cut-stays}
-use Rattle.fx_cuts.specs.Joined.{JoinedState, with_entry}
-use Rattle.fx_shown.specs.LogTxns.{LogTxns, HasLogTxns, IsLogState, HasLaterBase, HaveBases, last_kept, found_txns, committed_txns}
-use Rattle.fx_shown.proofs.LogCuts.{texts-short}
+use Rattle.fx_logcuts.proofs.CutParts.{Lists, base-rises, cut-now, cut-stays, texts-short}
+use Rattle.fx_uses.specs.Uses.{AreUses}
+use Rattle.fx_cuts.specs.Joined.{JoinedState, with_based, with_entry}
+use Rattle.fx_shown.specs.LogTxns.{LogTxns, HasLogTxns, IsLogState, HasMountBase, HasLaterBase, HaveBases, HaveNoLowerBase, IsBesideLog, last_kept, found_txns, committed_txns}
 use Rattle.fx_shown.proofs.StreamLeft.{Txns}
 
 pub state-found : (s : JoinedState) (size from : ℕ) (head : LogHead) (slot : Which) → s.blocks.base ≡ head.super.base → s.blocks.settled ≤ head.super.base + length s.txns → IsLogState s (new_session size from head slot) (found_txns s.txns) 0
@@ -153,3 +153,41 @@ later-now s log t cut has none origin base firm = record {
   };
   flushed = firm;
 }
+
+-- ---- a superblock's base never falls
+
+-- one that may come has no lower base than the current one
+next-base : (s : JoinedState) (log : SessionLog) (t : LogTxns) (former latter : SuperCut) → HasMountBase log former ⊎ HasLaterBase s log t former → HasMountBase log latter ⊎ HasLaterBase s log t latter → MayCome former latter → former.super.base ≤ latter.super.base
+next-base s log t former latter (inl a) (inl b) comes = omega (arith, a.base, b.base)
+next-base s log t former latter (inl a) (inr b) comes = let up = b.cut_is.base in omega (arith, a.base, up)
+next-base s log t former latter (inr a) (inl b) comes = absurd (subst (λ (o : Origin). IsNoEarlier o None) a.cut_is.origin (subst (λ (o : Origin). IsNoEarlier former.origin o) b.origin comes.later))
+next-base s log t former latter (inr a) (inr b) comes = base-rises t.opened (last_kept log.head.super.base t) log.tail.blocks t.commits former latter a.cut_is b.cut_is comes.later
+
+pub above-found : (s : JoinedState) (size from : ℕ) (head : LogHead) (slot : Which) → s.based ≤ head.super.base → HaveNoLowerBase s (new_session size from head slot)
+above-found s size from head slot le cut (inl e) = subst (λ (n : ℕ). s.based ≤ n) (sym (ap (λ (c : SuperCut). c.super.base) e)) le
+above-found s size from head slot le cut (inr e) = let z : None ≡ Some cut = e in absurd (cc)
+
+pub above-put : (s : JoinedState) (log : SessionLog) (t : LogTxns) (marks : ℕ) (cut : SuperCut) (ok : Bool) → IsBesideLog s log t marks → HasMountBase log cut ⊎ HasLaterBase s log t cut → MayCome log.supers.current cut → HaveNoLowerBase s (put_session log cut ok)
+above-put s log t marks cut ok h new comes other (inl e) = h.above other (inl e)
+above-put s log t marks cut ok h new comes other (inr e) =
+    let same : cut ≡ other = (let z : Some cut ≡ Some other = e in cc) in
+    let low : s.based ≤ log.supers.current.super.base = h.above log.supers.current (inl refl) in
+    let up : log.supers.current.super.base ≤ cut.super.base = next-base s log t log.supers.current cut (h.bases log.supers.current (inl refl)) new comes in
+    subst (λ (c : SuperCut). s.based ≤ c.super.base) same (omega (arith, low, up))
+
+pub above-finished : (s : JoinedState) (log : SessionLog) (cut : SuperCut) → HaveNoLowerBase (with_based s cut.super.base) (finished_session log cut)
+above-finished s log cut other (inl e) = subst (λ (n : ℕ). cut.super.base ≤ n) (sym (ap (λ (c : SuperCut). c.super.base) e)) (omega arith)
+above-finished s log cut other (inr e) = let z : None ≡ Some other = e in absurd (cc)
+
+pub above-moved : (s later : JoinedState) (log : SessionLog) → HaveNoLowerBase s log → later.based ≡ s.based → HaveNoLowerBase later log
+above-moved s later log h same cut one = let low = h cut one in omega (arith, same, low)
+
+-- what the flush that settles the coming superblock asks of its base
+pub base-bounds : (s : JoinedState) (log : SessionLog) (t : LogTxns) (marks : ℕ) (cut : SuperCut) → IsBesideLog s log t marks → AreUses s.blocks → log.supers.coming ≡ Some cut → (s.based ≤ cut.super.base) × (cut.super.base ≤ s.blocks.firm)
+base-bounds s log t marks cut h used coming = (
+  h.above cut (inr coming),
+  elim (h.bases cut (inr coming)) [
+    | inl m ↦ omega (arith, m.base, h.state.base, used.marked, used.firm)
+    | inr k ↦ k.flushed
+  ],
+)

@@ -87,16 +87,22 @@ HaveBases s log t = (cut : SuperCut) → IsSuperIn log.supers cut →
 abbrev pub HaveMountBase : SessionLog → Type 0
 HaveMountBase log = (cut : SuperCut) → IsSuperIn log.supers cut → HasMountBase log cut
 
+-- None of them has a lower base than the last one that was settled.
+abbrev pub HaveNoLowerBase : JoinedState → SessionLog → Type 0
+HaveNoLowerBase s log = (cut : SuperCut) → IsSuperIn log.supers cut → s.based ≤ cut.super.base
+
 -- The state and its transactions beside the log.
 pub record IsBesideLog (s : JoinedState) (log : SessionLog) (t : LogTxns) (marks : ℕ) : Type 0 where
   pub has : HasLogTxns log t
   pub state : IsLogState s log t marks
   pub bases : HaveBases s log t
+  pub above : HaveNoLowerBase s log
 
--- The other state has the same base count and transactions, and what was firm stays so.
+-- The other state has the same base counts and transactions, and what was firm stays so.
 pub record GoesOnFrom (s later : JoinedState) : Type 0 where
   pub base : later.blocks.base ≡ s.blocks.base
   pub txns : later.txns ≡ s.txns
+  pub based : later.based ≡ s.based
   pub firm : s.blocks.firm ≤ later.blocks.firm
 
 -- ---- what layers and allocations owe

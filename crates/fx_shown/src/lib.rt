@@ -18,18 +18,18 @@ ghost use Rattle.fx_record.specs.Commits.{IsCommit, commits_bytes, numbered};
 ghost use Rattle.fx_record.specs.Record.{DiscardRecord, record_bytes};
 ghost use Rattle.fx_record.specs.Txns.{IsTxns};
 ghost use Rattle.fx_supers.specs.InMemory.{AppendsTo};
-ghost use Rattle.fx_supers.specs.SessionLog.{HoldsLog, IsSessionLog, SessionLog, closed_session, finished_session, flushed_session, new_session, put_session, written_session};
+ghost use Rattle.fx_supers.specs.SessionLog.{HoldsLog, IsSessionLog, MayCome, SessionLog, closed_session, finished_session, flushed_session, new_session, put_session, written_session};
 ghost use Rattle.fx_supers.specs.Supers.{SuperCut};
 ghost use Rattle.fx_logcuts.specs.Cuts.{pieces_in};
 ghost use Rattle.fx_kept.specs.Chance.{HasMeantForms};
 ghost use Rattle.fx_uses.specs.Live.{txn_of};
 ghost use Rattle.fx_uses.specs.Uses.{AreUses};
-ghost use Rattle.fx_cuts.specs.Joined.{JoinedState, NumberedItems, with_entry};
+ghost use Rattle.fx_cuts.specs.Joined.{JoinedState, NumberedItems, with_based, with_entry};
 ghost use Rattle.fx_cuts.specs.Images.{ShowsCuts};
 ghost use Rattle.fx_cuts.specs.KeepsJoined.{ShowsFound};
 ghost use Rattle.fx_shown.specs.Forms.{log_forms};
 ghost use Rattle.fx_shown.specs.Meanings.{LayerReading, LayersSayOne, ShowsTxns, log_meanings};
-ghost use Rattle.fx_shown.specs.LogTxns.{AreSoundFound, AreSoundNow, GoesOnFrom, HasLaterBase, HasLogTxns, HasMountBase, HaveBases, HaveMountBase, IsBesideLog, IsDropping, LayersSayNow, LogTxns, committed_txns, dropped_txns, found_txns, newest_commit, last_kept};
+ghost use Rattle.fx_shown.specs.LogTxns.{AreSoundFound, AreSoundNow, GoesOnFrom, HasLaterBase, HasLogTxns, HasMountBase, HaveBases, HaveMountBase, HaveNoLowerBase, IsBesideLog, IsDropping, LayersSayNow, LogTxns, committed_txns, dropped_txns, found_txns, newest_commit, last_kept};
 
 /// That no superblock and no block of the ring makes sense by chance is the same said of the forms of
 /// blocks and of the runs from the chosen superblock, with the generation that was chosen before.
@@ -87,7 +87,7 @@ pub fn state_of_mount()
     ensures found { (s : JoinedState) (size from : ℕ) (head : LogHead) (slot : Which) →
         IsTxns head.super.base (pieces_in head.read) s.txns →
         head.super.base + length s.txns < 2 ^ 64 → s.blocks.base ≡ head.super.base →
-        s.blocks.settled ≤ head.super.base + length s.txns →
+        s.blocks.settled ≤ head.super.base + length s.txns → s.based ≤ head.super.base →
         IsBesideLog s (new_session size from head slot) (found_txns s.txns) 0 }
     ensures dropped { (log : SessionLog) (kept beyond : NumberedItems) (closed : List Queued)
         (chain : ℕ) (text : List ℕ) → HasLogTxns log (found_txns (kept ++ beyond)) →
@@ -95,7 +95,8 @@ pub fn state_of_mount()
         chain text → HasLogTxns (closed_session log closed chain text)
         (dropped_txns log.head.super.base kept beyond) }
     ensures settled { (s : JoinedState) (log : SessionLog) (t : LogTxns) → HasLogTxns log t →
-        HaveBases s log t → IsWrittenOut log.tail → s.blocks.base ≡ log.head.super.base →
+        HaveBases s log t → HaveNoLowerBase s log → IsWrittenOut log.tail →
+        s.blocks.base ≡ log.head.super.base →
         s.txns ≡ t.kept ++ numbered (last_kept log.head.super.base t) t.commits →
         s.blocks.settled ≤ last_kept log.head.super.base t + length t.commits →
         IsBesideLog s (flushed_session log) t (length t.commits) }
@@ -126,16 +127,19 @@ pub fn state_over_ring()
         IsBesideLog later (flushed_session log) t (length t.commits) }
 {}
 
-/// It goes on over a superblock that is written or settled, and over what changes neither base count nor
-/// transactions. A superblock whose stream begins after all that was appended has a later base.
+/// It goes on over a superblock that is written, or settled, which raises the base that no image left goes
+/// below; and over what changes neither base count nor transactions. A superblock whose stream begins after
+/// all that was appended has a later base. The base of the coming superblock is no lower than the last that
+/// was settled, and flushed.
 pub fn state_over_supers()
     ensures put { (s : JoinedState) (log : SessionLog) (t : LogTxns) (marks : ℕ) (cut : SuperCut)
         (ok : Bool) → IsBesideLog s log t marks →
-        HasMountBase log cut ⊎ HasLaterBase s log t cut →
+        HasMountBase log cut ⊎ HasLaterBase s log t cut → MayCome log.supers.current cut →
         IsBesideLog s (put_session log cut ok) t marks }
     ensures finished { (s : JoinedState) (log : SessionLog) (t : LogTxns) (marks : ℕ)
         (cut : SuperCut) → IsBesideLog s log t marks → IsSessionLog log →
-        log.supers.coming ≡ Some cut → IsBesideLog s (finished_session log cut) t marks }
+        log.supers.coming ≡ Some cut →
+        IsBesideLog (with_based s cut.super.base) (finished_session log cut) t marks }
     ensures moved { (s later : JoinedState) (log : SessionLog) (t : LogTxns) (marks : ℕ) →
         IsBesideLog s log t marks → GoesOnFrom s later →
         later.blocks.settled ≤ last_kept log.head.super.base t + marks →
@@ -144,4 +148,8 @@ pub fn state_over_supers()
         HasLogTxns log t → log.tail.text ≡ [] → cut.origin ≡ Some (length log.tail.blocks) →
         cut.super.base ≡ newest_commit log.head.super.base t → cut.super.base ≤ s.blocks.firm →
         HasLaterBase s log t cut }
+    ensures bounds { (s : JoinedState) (log : SessionLog) (t : LogTxns) (marks : ℕ)
+        (cut : SuperCut) → IsBesideLog s log t marks → AreUses s.blocks →
+        log.supers.coming ≡ Some cut →
+        (s.based ≤ cut.super.base) × (cut.super.base ≤ s.blocks.firm) }
 {}
