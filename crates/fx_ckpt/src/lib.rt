@@ -2,8 +2,10 @@
 #![tactic(auto)]
 
 mod checkpoint;
+mod laws;
 
 pub use checkpoint::{Ckpt, Phase};
+pub use laws::put_lasts_law;
 
 #[cfg(test)]
 mod tests;

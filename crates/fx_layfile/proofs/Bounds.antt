@@ -10,7 +10,8 @@ use Rattle.fx_item.proofs.Sums.{sums_len}
 use Rattle.fx_record.proofs.Lengths.{name_len}
 use Rattle.fx_layfile.specs.Block.{IsOfTree, tree_of_key}
 use Rattle.fx_layfile.specs.Writing.{Filling, fill_one, nothing_filled, one_if_some, data_count}
-use Rattle.fx_layfile.specs.Bound.{is_object_key, is_naming_key, is_attribute_key, blocks_of_key, LayerBoundLaw}
+use Rattle.fx_layfile.specs.Bound.{is_naming_key, blocks_in_range, LayerBoundLaw}
+use Rattle.fx_sound.specs.Image.{is_object, is_attribute, blocks_under}
 
 abbrev made : PlainKey → PlainValue → PlainItem
 made key value = record { key = key; value = value }
@@ -20,7 +21,7 @@ one b = cond b 1 0
 
 -- at most so many bytes: 18 for a node, 282 for what names it, 528 for an attribute, 34 for a block
 abbrev weight : PlainKey → ℕ
-weight k = 18 * one (is_object_key k) + 282 * one (is_naming_key k) + 528 * one (is_attribute_key k) + 34 * blocks_of_key k
+weight k = 18 * one (is_object k) + 282 * one (is_naming_key k) + 528 * one (is_attribute k) + 34 * (blocks_under k + blocks_in_range k)
 
 bytes_len : (k : PlainKey) (v : PlainValue) → length (item_bytes (made k v)) ≡ length (key_bytes k) + length (value_bytes v)
 bytes_len k v = length-append (key_bytes k) (value_bytes v)
@@ -159,18 +160,27 @@ data_most tree items h =
 
 -- ---- the sums
 
-objects_total : (items : List PlainItem) → total items ≡ 18 * count_by (λ x. is_object_key x.key) items + 282 * count_by (λ x. is_naming_key x.key) items + 528 * count_by (λ x. is_attribute_key x.key) items + 34 * sum_by (λ x. blocks_of_key x.key) items
-objects_total [] = refl
-objects_total (x ∷ items) =
-    let ih = objects_total items in
-    let w = sum_by-cons (λ (y : PlainItem). weight y.key) x items in
-    let a = sum_by-cons (λ (y : PlainItem). one (is_object_key y.key)) x items in
-    let b = sum_by-cons (λ (y : PlainItem). one (is_naming_key y.key)) x items in
-    let d = sum_by-cons (λ (y : PlainItem). one (is_attribute_key y.key)) x items in
-    let e = sum_by-cons (λ (y : PlainItem). blocks_of_key y.key) x items in
-    omega (arith, ih, w, a, b, d, e)
+object_weight : (k : PlainKey) → tree_of_key k ≡ 1 → weight k ≡ 18 * one (is_object k) + 282 * one (is_naming_key k) + 528 * one (is_attribute k) + 34 * blocks_under k
+object_weight (ObjectKey s i) e = omega arith
+object_weight (AttributeKey s i name) e = omega arith
+object_weight (ExtentKey s i start stop) e = omega arith
+object_weight (ChildKey s i name) e = omega arith
+object_weight (GraveKey s i) e = omega arith
+object_weight (AllocationKey start stop) e = absurd (omega arith)
 
-range_weight : (k : PlainKey) → tree_of_key k ≡ 2 → weight k ≡ 34 * blocks_of_key k
+objects_total : (items : List PlainItem) → All (IsOfTree 1) items → total items ≡ 18 * count_by (λ x. is_object x.key) items + 282 * count_by (λ x. is_naming_key x.key) items + 528 * count_by (λ x. is_attribute x.key) items + 34 * sum_by (λ x. blocks_under x.key) items
+objects_total [] h = refl
+objects_total (x ∷ items) h =
+    let ih = objects_total items (All-tail (IsOfTree 1) x items h) in
+    let w = sum_by-cons (λ (y : PlainItem). weight y.key) x items in
+    let a = sum_by-cons (λ (y : PlainItem). one (is_object y.key)) x items in
+    let b = sum_by-cons (λ (y : PlainItem). one (is_naming_key y.key)) x items in
+    let d = sum_by-cons (λ (y : PlainItem). one (is_attribute y.key)) x items in
+    let e = sum_by-cons (λ (y : PlainItem). blocks_under y.key) x items in
+    let k = object_weight x.key (All-head (IsOfTree 1) x items h).tree_is in
+    omega (arith, ih, w, a, b, d, e, k)
+
+range_weight : (k : PlainKey) → tree_of_key k ≡ 2 → weight k ≡ 34 * blocks_in_range k
 range_weight (AllocationKey start stop) e = omega arith
 range_weight (ObjectKey s i) e = absurd (omega arith)
 range_weight (AttributeKey s i name) e = absurd (omega arith)
@@ -178,12 +188,12 @@ range_weight (ExtentKey s i start stop) e = absurd (omega arith)
 range_weight (ChildKey s i name) e = absurd (omega arith)
 range_weight (GraveKey s i) e = absurd (omega arith)
 
-ranges_total : (items : List PlainItem) → All (IsOfTree 2) items → total items ≡ 34 * sum_by (λ x. blocks_of_key x.key) items
+ranges_total : (items : List PlainItem) → All (IsOfTree 2) items → total items ≡ 34 * sum_by (λ x. blocks_in_range x.key) items
 ranges_total [] h = refl
 ranges_total (x ∷ items) h =
     let ih = ranges_total items (All-tail (IsOfTree 2) x items h) in
     let w = sum_by-cons (λ (y : PlainItem). weight y.key) x items in
-    let e = sum_by-cons (λ (y : PlainItem). blocks_of_key y.key) x items in
+    let e = sum_by-cons (λ (y : PlainItem). blocks_in_range y.key) x items in
     let k = range_weight x.key (All-head (IsOfTree 2) x items h).tree_is in
     omega (arith, ih, w, e, k)
 
@@ -193,6 +203,6 @@ arithmetic n a b c d e g r x y p q h1 h2 h3 h4 h5 h6 h7 h8 h9 = omega arith
 
 pub layer_bound_holds : LayerBoundLaw
 layer_bound_holds n a b objects allocs h =
-    arithmetic n a b (count_by (λ x. is_object_key x.key) objects) (count_by (λ x. is_naming_key x.key) objects) (count_by (λ x. is_attribute_key x.key) objects) (sum_by (λ x. blocks_of_key x.key) objects) (sum_by (λ x. blocks_of_key x.key) allocs)
-    (total objects) (total allocs) (data_count objects) (data_count allocs) (data_most 1 objects h.objects_good) (data_most 2 allocs h.allocs_good) (objects_total objects) (ranges_total allocs h.allocs_good)
+    arithmetic n a b (count_by (λ x. is_object x.key) objects) (count_by (λ x. is_naming_key x.key) objects) (count_by (λ x. is_attribute x.key) objects) (sum_by (λ x. blocks_under x.key) objects) (sum_by (λ x. blocks_in_range x.key) allocs)
+    (total objects) (total allocs) (data_count objects) (data_count allocs) (data_most 1 objects h.objects_good) (data_most 2 allocs h.allocs_good) (objects_total objects h.objects_good) (ranges_total allocs h.allocs_good)
     h.of_nodes h.of_names h.of_attributes h.of_extents h.of_ranges

@@ -65,6 +65,13 @@ impl Layer {
     {
         &self.blocks
     }
+
+    /// Its items, in order.
+    pub fn items(&self) -> &[Item]
+        ensures { items_of result.now ≡ self.now.items }
+    {
+        self.batch.as_slice()
+    }
 }
 
 /// A look costs a binary search, and the copy of the item that is found.

@@ -276,11 +276,11 @@ fn item_from(alloc: Global, bytes: &[u8]) -> Result<Item, AllocError>
     Ok(item)
 }
 
-/// An attribute of 528 bytes.
-fn longest(alloc: Global) -> Result<Item, AllocError>
+/// An attribute of 528 bytes, whose name begins with this byte.
+fn longest(alloc: Global, letter: u8) -> Result<Item, AllocError>
     ensures { IfOk result (λ item. IsOfTree 1 (item_of item)) }
 {
-    let mut bytes = vec![in alloc; 0x6b; 528]?;
+    let mut bytes = vec![in alloc; letter; 528]?;
     let head = [2, 1, 0, 0, 0, 1, 0, 0, 0, 0, 0, 0, 0, 255];
     if bytes.len() == 528 {
         bytes[..14].copy_from_slice(&head);
@@ -311,7 +311,7 @@ fn counts(alloc: Global, item: &Item, items: u32) -> Result<(u32, u32), AllocErr
 
 /// Seven of the longest items fill a block.
 fn blocks_given(alloc: Global, items: u32) -> Result<(u32, u32), AllocError> {
-    let item = longest(alloc)?;
+    let item = longest(alloc, b'k')?;
     counts(alloc, &item, items)
 }
 
@@ -381,19 +381,37 @@ fn filled(alloc: Global, tree: u32, bytes: &[u8]) -> Result<LayerWriter, AllocEr
     Ok(writer)
 }
 
+/// Puts a block where it is to stand.
+fn put(blocks: &mut [[u8; BLOCK_BYTES]], given: Block) {
+    if let Some(block) = blocks.get_mut(given.at as usize) {
+        let bytes = given.bytes;
+        *block = bytes;
+    }
+}
+
+/// Puts the blocks that a writer still gives, from a block on.
+fn finish_into(
+    blocks: &mut [[u8; BLOCK_BYTES]],
+    writer: &mut LayerWriter,
+    from: u32,
+) -> Result<(), AllocError> {
+    for at in from..12 {
+        if at == 0 {
+            return Ok(());
+        }
+        let Some(given) = writer.finish(at)? else {
+            return Ok(());
+        };
+        put(blocks, given);
+    }
+    Ok(())
+}
+
 /// Blocks with those that a writer still gives, from block 6 on.
 fn stored(alloc: Global, writer: LayerWriter) -> Result<Vec<[u8; BLOCK_BYTES]>, AllocError> {
     let mut writer = writer;
     let mut blocks = zeros(alloc)?;
-    for at in 6u32..9 {
-        let Some(given) = writer.finish(at)? else {
-            return Ok(blocks);
-        };
-        if let Some(block) = blocks.get_mut(given.at as usize) {
-            let bytes = given.bytes;
-            *block = bytes;
-        }
-    }
+    finish_into(&mut blocks, &mut writer, 6)?;
     Ok(blocks)
 }
 
@@ -441,5 +459,68 @@ fn objects_are_read_back(rt: HostRuntime) -> Result<(), Fail> {
 #[test]
 fn ranges_are_read_back(rt: HostRuntime) -> Result<(), Fail> {
     assert_eq!(rt; read_back(rt.alloc(), 2, &RANGES)?, 2);
+    Ok(())
+}
+
+/// Adds the attributes of 528 bytes whose names begin with the letters, puts each block that is given,
+/// from block 6 on, and answers the next place.
+fn add_longest(
+    alloc: Global,
+    blocks: &mut [[u8; BLOCK_BYTES]],
+    writer: &mut LayerWriter,
+    letters: &[u8],
+) -> Result<u32, AllocError>
+    requires tree { writer.old.tree ≡ 1 }
+    requires open { IsOpen writer.old }
+{
+    let mut at = 6u32;
+    for letter in letters {
+        let item = longest(alloc, *letter)?;
+        if let Some(given) = writer.add(&item, at)? {
+            put(blocks, given);
+            at = at.wrapping_add(1);
+        }
+    }
+    Ok(at)
+}
+
+/// The layer of these attributes, as it is read back from its blocks.
+fn longest_back(alloc: Global, letters: &[u8]) -> Result<Option<Layer>, AllocError> {
+    let mut blocks = zeros(alloc)?;
+    let mut writer = LayerWriter::new(alloc, 1);
+    let next = add_longest(alloc, &mut blocks, &mut writer, letters)?;
+    finish_into(&mut blocks, &mut writer, next)?;
+    let Some(first) = writer.first() else {
+        return Ok(None);
+    };
+    Ok(read_on(alloc, blocks, 0, first, 1).ok())
+}
+
+/// How many blocks the layer of these attributes has, and how many of them are found in it.
+fn longest_found(alloc: Global, letters: &[u8]) -> Result<(usize, usize), AllocError> {
+    let Some(layer) = longest_back(alloc, letters)? else {
+        return Ok((0, 0));
+    };
+    let mut found = 0usize;
+    for letter in letters {
+        let item = longest(alloc, *letter)?;
+        if is_found(alloc, &layer, &item)? {
+            found = found.wrapping_add(1);
+        }
+    }
+    Ok((layer.blocks().len(), found))
+}
+
+#[test]
+fn the_longest_items_fill_three_data_blocks(rt: HostRuntime) -> Result<(), Fail> {
+    let found = longest_found(rt.alloc(), b"abcdefghijklmno")?;
+    assert_eq!(rt; found, (4, 15));
+    Ok(())
+}
+
+#[test]
+fn a_full_data_block_and_one_item_more(rt: HostRuntime) -> Result<(), Fail> {
+    assert_eq!(rt; longest_found(rt.alloc(), b"abcdefg")?, (2, 7));
+    assert_eq!(rt; longest_found(rt.alloc(), b"abcdefgh")?, (3, 8));
     Ok(())
 }

@@ -1,0 +1,4 @@
+pub mod Layers
+pub mod Gathered
+pub mod NamedCuts
+pub mod SoundAfter
