@@ -1,0 +1,4 @@
+mod Stated
+mod Discards
+mod Numbered
+mod Runs

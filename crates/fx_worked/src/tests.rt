@@ -1,0 +1,6 @@
+mod choosing;
+mod folding;
+mod keeping;
+mod looking;
+mod noting;
+mod walking;
