@@ -58,7 +58,7 @@ cut_next at (x ∷ xs) rest h =
 
 -- ---- numbers
 
-number_printed : (n : ℕ) → n ≤ max_number → number_in (decimal n) ≡ Ok n
+pub number_printed : (n : ℕ) → n ≤ max_number → number_in (decimal n) ≡ Ok n
 number_printed n h =
     let small : n < 2 ^ 64 = omega arith in
     let digits = digits_decimal own n small in
@@ -84,7 +84,7 @@ text_some : (word : List ℕ) → 0 < length word → text_of word ≡ Ok (perce
 text_some [] h = absurd (omega arith)
 text_some (b ∷ bs) h = refl
 
-text_printed : (text : List ℕ) → IsText text → text_of (escaped text) ≡ Ok text
+pub text_printed : (text : List ℕ) → IsText text → text_of (escaped text) ≡ Ok text
 text_printed text h =
     text_some (escaped text) (escaped_some text h.bytes h.some) ∙ ap Ok (decode-escaped text h.bytes)
 
@@ -95,7 +95,7 @@ pub record IsNamed (name : List ℕ) : Type 0 where
   pub bytes : AreBytes name
   pub some : 0 < length name
 
-named : (name : List ℕ) → is_name name ≡ true → IsNamed name
+pub named : (name : List ℕ) → is_name name ≡ true → IsNamed name
 named name h =
     let a = and_parts _ _ h in
     let b = and_parts _ _ a.0 in
@@ -132,7 +132,7 @@ length-map_escaped : (names : List (List ℕ)) → length (map escaped names) �
 length-map_escaped [] = refl
 length-map_escaped (name ∷ names) = ap suc (length-map_escaped names)
 
-path_printed : (path : List (List ℕ)) → IsPath path → path_of (path_text path) ≡ Ok path
+pub path_printed : (path : List (List ℕ)) → IsPath path → path_of (path_text path) ≡ Ok path
 path_printed [] h = refl
 path_printed (name ∷ names) h =
     let first = named name h.names.0 in
@@ -159,7 +159,7 @@ digit_is_word b h = grind (arith, nat_tests)
 pub escaped_word : (bs : List ℕ) → AreBytes bs → list_all is_word_byte (escaped bs) ≡ true
 escaped_word bs h = weaker is_escape_byte is_word_byte escape_is_word (escaped bs) (clean bs h)
 
-decimal_word : (n : ℕ) → n ≤ max_number → list_all is_word_byte (decimal n) ≡ true
+pub decimal_word : (n : ℕ) → n ≤ max_number → list_all is_word_byte (decimal n) ≡ true
 decimal_word n h = weaker is_ascii_digit is_word_byte digit_is_word (decimal n) (digits_decimal own n (omega arith))
 
 names_word : (names : List (List ℕ)) → AllByRecursion (λ name. is_name name ≡ true) names → list_all is_word_byte (names_text names) ≡ true
@@ -167,7 +167,7 @@ names_word [] h = refl
 names_word (name ∷ names) h =
     list_all-append is_word_byte (escaped name) (names_text names) ∙ both_true (escaped_word name (named name h.0).bytes) (names_word names h.1)
 
-path_word : (path : List (List ℕ)) → IsPath path → list_all is_word_byte (path_text path) ≡ true
+pub path_word : (path : List (List ℕ)) → IsPath path → list_all is_word_byte (path_text path) ≡ true
 path_word [] h = refl
 path_word (name ∷ names) h = names_word (name ∷ names) h.names
 
@@ -179,7 +179,7 @@ cut_spaced word (next ∷ words) h =
     cut_next 32 word (spaced (next ∷ words)) (weaker is_word_byte (is_not 32) (λ b e. (and_parts (is_ascii b) (is_not 32 b) e).1) word h.0)
     ∙ ap (λ pieces. word ∷ pieces) (cut_spaced next words h.1)
 
-ascii_spaced : (word : List ℕ) (words : List (List ℕ)) → AreWords (word ∷ words) → list_all is_ascii (spaced (word ∷ words)) ≡ true
+pub ascii_spaced : (word : List ℕ) (words : List (List ℕ)) → AreWords (word ∷ words) → list_all is_ascii (spaced (word ∷ words)) ≡ true
 ascii_spaced word [] h = weaker is_word_byte is_ascii (λ b e. (and_parts (is_ascii b) (is_not 32 b) e).0) word h.0
 ascii_spaced word (next ∷ words) h =
     list_all-append is_ascii word (32 ∷ spaced (next ∷ words))
@@ -190,7 +190,7 @@ line_spaced : (word : List ℕ) (words : List (List ℕ)) → AreWords (word ∷
 line_spaced word words h = cond-true _ _ _ (ascii_spaced word words h) ∙ ap line_of_words (cut_spaced word words h)
 
 -- a word that does not have the byte `;` is not `;`
-not_semicolon : (p : ℕ → Bool) (word : List ℕ) → p 59 ≡ false → list_all p word ≡ true → bytes_eq word (codes ";") ≡ false
+pub not_semicolon : (p : ℕ → Bool) (word : List ℕ) → p 59 ≡ false → list_all p word ≡ true → bytes_eq word (codes ";") ≡ false
 not_semicolon p [] e h = refl
 not_semicolon p (b ∷ bs) e h = by_test (b == 59) refl
   where
@@ -201,14 +201,14 @@ not_semicolon p (b ∷ bs) e h = by_test (b == 59) refl
         absurd (cc)
     by_test false is = rw is refl
 
-path_not_semicolon : (path : List (List ℕ)) → bytes_eq (path_text path) (codes ";") ≡ false
+pub path_not_semicolon : (path : List (List ℕ)) → bytes_eq (path_text path) (codes ";") ≡ false
 path_not_semicolon [] = refl
 path_not_semicolon (name ∷ names) = refl
 
-decimal_not_semicolon : (n : ℕ) → n ≤ max_number → bytes_eq (decimal n) (codes ";") ≡ false
+pub decimal_not_semicolon : (n : ℕ) → n ≤ max_number → bytes_eq (decimal n) (codes ";") ≡ false
 decimal_not_semicolon n h = not_semicolon is_ascii_digit (decimal n) refl (digits_decimal own n (omega arith))
 
-text_not_semicolon : (text : List ℕ) → AreBytes text → bytes_eq (escaped text) (codes ";") ≡ false
+pub text_not_semicolon : (text : List ℕ) → AreBytes text → bytes_eq (escaped text) (codes ";") ≡ false
 text_not_semicolon text h = not_semicolon is_escape_byte (escaped text) refl (clean text h)
 
 mkdir_printed : (path : List (List ℕ)) → IsPath path → line_of (spaced (step_words (Mkdir path))) ≡ Ok (Single (Mkdir path))

@@ -51,7 +51,7 @@ unless_ok false r fault y e = e
 
 -- ---- words
 
-number_small : (word : List ℕ) (n : ℕ) → number_in word ≡ Ok n → n ≤ max_number
+pub number_small : (word : List ℕ) (n : ℕ) → number_in word ≡ Ok n → n ≤ max_number
 number_small word n e =
     let value : ℕ = digits_value 10 word in
     let told = if_ok (is_decimal word && nat_le value max_number) (Ok value) faults.BadNumber n e in
@@ -100,11 +100,11 @@ below_named [] names e =
     subst IsPath same (record { few = omega arith; names = tt })
 below_named (b ∷ bs) names e = few_named (cut 47 (b ∷ bs)) names e
 
-path_named : (word : List ℕ) (path : List (List ℕ)) → path_of word ≡ Ok path → IsPath path
+pub path_named : (word : List ℕ) (path : List (List ℕ)) → path_of word ≡ Ok path → IsPath path
 path_named [] path e = absurd (cc)
 path_named (b ∷ bs) path e = below_named bs path (if_ok (b == 47) (below_root bs) faults.BadPath path e).1
 
-by_recursion : (bs : List ℕ) → All IsByte bs → AreBytes bs
+pub by_recursion : (bs : List ℕ) → All IsByte bs → AreBytes bs
 by_recursion [] all = tt
 by_recursion (b ∷ bs) all = (All-head IsByte b bs all, by_recursion bs (All-tail IsByte b bs all))
 
@@ -119,7 +119,7 @@ text_bytes (b ∷ bs) text h e =
 
 -- ---- the words of a line
 
-abbrev AreWords : List (List ℕ) → Type 0
+abbrev pub AreWords : List (List ℕ) → Type 0
 AreWords words = AllByRecursion AreBytes words
 
 onto_words : (b : ℕ) (pieces : List (List ℕ)) → b < 256 → AreWords pieces → AreWords (onto_first b pieces)
@@ -127,7 +127,7 @@ onto_words b [] small h = ((small, tt), tt)
 onto_words b (piece ∷ pieces) small h = ((small, h.0), h.1)
 
 -- the pieces of a line of ASCII are bytes
-cut_words : (at : ℕ) (line : List ℕ) → list_all is_ascii line ≡ true → AreWords (cut at line)
+pub cut_words : (at : ℕ) (line : List ℕ) → list_all is_ascii line ≡ true → AreWords (cut at line)
 cut_words at [] h = (tt, tt)
 cut_words at (b ∷ bs) h = by (b == at) (cut_words at bs parts.1)
   where
@@ -183,7 +183,7 @@ either_step : (t : Bool) (r s : Result Step LineFault) (step : Step) → (r ≡ 
 either_step true r s step one other e = one e
 either_step false r s step one other e = other e
 
-step_rules : (words : List (List ℕ)) (step : Step) → AreWords words → step_of words ≡ Ok step → StepKeepsRules step
+pub step_rules : (words : List (List ℕ)) (step : Step) → AreWords words → step_of words ≡ Ok step → StepKeepsRules step
 step_rules [] step h e = absurd (cc)
 step_rules (word ∷ words) step h e =
     either_step (bytes_eq word (codes "mkdir")) (mkdir_of words) _ step (path_step Mkdir words step (λ path k. k))
@@ -234,7 +234,7 @@ first_rules (client ∷ words) found h e =
     let same : (sender.x, words) ≡ found = cc sender.gives in
     subst (λ (f : ℕ × List (List ℕ)). AreWords f.1) same h.1
 
-sender_rules : (many : Bool) (words : List (List ℕ)) (found : ℕ × List (List ℕ)) → AreWords words → sender_of many words ≡ Ok found → AreWords found.1
+pub sender_rules : (many : Bool) (words : List (List ℕ)) (found : ℕ × List (List ℕ)) → AreWords words → sender_of many words ≡ Ok found → AreWords found.1
 sender_rules false words found h e =
     let same : (1, words) ≡ found = cc in
     subst (λ (f : ℕ × List (List ℕ)). AreWords f.1) same h
@@ -244,7 +244,7 @@ read_line_is : (found : Result Line LineFault) → IsOk found → found ≡ Ok (
 read_line_is (Ok line) e = refl
 read_line_is (Err fault) e = absurd (cc)
 
-abbrev IsClient : ℕ → Type 0
+abbrev pub IsClient : ℕ → Type 0
 IsClient client = (0 < client) × (client ≤ MAX_CLIENT)
 
 number_client : (number : Result ℕ LineFault) (client : ℕ) → client_of_number number ≡ Ok client → IsClient client
@@ -262,7 +262,7 @@ first_client (client ∷ words) found e =
     let same : (sender.x, words) ≡ found = cc sender.gives in
     subst (λ (f : ℕ × List (List ℕ)). IsClient f.0) same (number_client (number_in client) sender.x sender.is)
 
-sender_client : (many : Bool) (words : List (List ℕ)) (found : ℕ × List (List ℕ)) → sender_of many words ≡ Ok found → IsClient found.0
+pub sender_client : (many : Bool) (words : List (List ℕ)) (found : ℕ × List (List ℕ)) → sender_of many words ≡ Ok found → IsClient found.0
 sender_client false words found e =
     let same : (1, words) ≡ found = cc in
     subst (λ (f : ℕ × List (List ℕ)). IsClient f.0) same (omega arith, omega arith)

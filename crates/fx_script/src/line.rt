@@ -28,15 +28,15 @@ pub(crate) enum LineWords<'a> {
     Sync,
 }
 
-/// Whether each byte is ASCII.
-pub(crate) fn is_ascii(line: &[u8]) -> bool
+/// Whether each byte is ASCII. Costs the bytes of the line.
+pub fn is_ascii(line: &[u8]) -> bool
     ensures { result ≡ list_all is_ascii line.now }
 {
     line.is_ascii()
 }
 
-/// Whether a word is the `;` that parts the steps of a group.
-fn has_semicolon(mut words: Pieces<'_>) -> bool
+/// Whether a word is the `;` that parts the steps of a group. Costs the bytes of the words.
+pub fn has_semicolon(mut words: Pieces<'_>) -> bool
     ensures { result ≡ has_semicolon words.entry }
 {
     words.may_have(b';') && words.any(|word| word == b";".as_slice())

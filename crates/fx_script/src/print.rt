@@ -9,8 +9,8 @@ use fx_item::Bytes;
 use fx_plain::{Path, Step};
 use std::alloc::{AllocError, Global};
 
-/// Appends a path.
-fn push_path(text: &mut String, path: &Path) -> Result<(), AllocError>
+/// Appends a path. Costs its bytes.
+pub fn push_path(text: &mut String, path: &Path) -> Result<(), AllocError>
     ensures { OnOk result (string_bytes text.new ≡ string_bytes text.old ++ path_text path.now) }
 {
     let names = path.as_slice();
@@ -24,8 +24,8 @@ fn push_path(text: &mut String, path: &Path) -> Result<(), AllocError>
     Ok(())
 }
 
-/// Appends a step.
-fn push_step(out: &mut String, step: &Step) -> Result<(), AllocError>
+/// Appends a step, its words with one space between them. Costs its bytes.
+pub fn push_step(out: &mut String, step: &Step) -> Result<(), AllocError>
     ensures { OnOk result
         (string_bytes out.new ≡ string_bytes out.old ++ spaced (step_words step.now)) }
 {

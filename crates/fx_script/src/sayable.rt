@@ -19,8 +19,9 @@ fn are_names(names: &[Name]) -> bool
     names.iter().all(|name| is_name(name.as_slice()))
 }
 
-/// Whether a script can say the path.
-fn is_path(path: &[Name]) -> bool
+/// Whether a script can say the path: it has at most 64 names, of which each may name a node. Costs
+/// its bytes.
+pub fn is_path(path: &[Name]) -> bool
     ensures { IsTrue result ↔ IsPath path.now }
 {
     if path.len() > MAX_NAMES {
@@ -29,8 +30,8 @@ fn is_path(path: &[Name]) -> bool
     are_names(path)
 }
 
-/// Whether a script can say the text.
-fn is_text(text: &[u8]) -> bool
+/// Whether a script can say the text: it has a byte.
+pub fn is_text(text: &[u8]) -> bool
     ensures { IsTrue result ↔ IsText text.now }
 {
     if text.is_empty() {
@@ -56,8 +57,8 @@ fn is_read(path: &[Name], at: u32, count: u32) -> bool
     is_path(path)
 }
 
-/// Whether a script can say the step.
-fn step_keeps_rules(step: &Step) -> bool
+/// Whether a script can say the step. Costs its bytes.
+pub fn step_keeps_rules(step: &Step) -> bool
     ensures { IsTrue result ↔ StepKeepsRules step.now }
 {
     match step {

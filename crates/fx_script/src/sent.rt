@@ -76,8 +76,8 @@ impl<'a> SentLine<'a> {
     }
 }
 
-/// The client that the word is.
-fn read_client(word: &[u8]) -> Result<u32, LineFault>
+/// The client that the word is. Fails with `BadClient`.
+pub fn read_client(word: &[u8]) -> Result<u32, LineFault>
     ensures { result ≡ client_of word.now }
 {
     match read_number(word) {

@@ -9,9 +9,9 @@ use crate::word::{check_path, check_text, copy_path, copy_text, read_number};
 use fx_plain::Step;
 use std::alloc::{AllocError, Global};
 
-/// The words of a step, each checked.
+/// The words of a step, each checked. It borrows the bytes of the line.
 #[derive(Drop)]
-pub(crate) enum StepWords<'a> {
+pub enum StepWords<'a> {
     Mkdir {
         path: &'a [u8],
     },
@@ -87,8 +87,9 @@ fn check_read<'a>(words: Pieces<'a>) -> Result<StepWords<'a>, LineFault>
     Ok(StepWords::Read { path, at, count })
 }
 
-/// The words of a step, the first of which names it.
-pub(crate) fn check_step<'a>(mut words: Pieces<'a>) -> Result<StepWords<'a>, LineFault>
+/// The words of a step, the first of which names it. Fails with their first fault, and takes no
+/// memory. Costs the bytes of the words.
+pub fn check_step<'a>(mut words: Pieces<'a>) -> Result<StepWords<'a>, LineFault>
     ensures { step_said result ≡ step_of words.entry }
 {
     let Some(word) = words.next() else {
@@ -119,8 +120,8 @@ pub(crate) fn check_step<'a>(mut words: Pieces<'a>) -> Result<StepWords<'a>, Lin
     Err(LineFault::UnknownWord)
 }
 
-/// The step that the words say, with names and a text of its own.
-pub(crate) fn copy_step(alloc: Global, words: &StepWords<'_>) -> Result<Step, AllocError>
+/// The step that the words say, with names and a text of its own. Costs the bytes of the words.
+pub fn copy_step(alloc: Global, words: &StepWords<'_>) -> Result<Step, AllocError>
     ensures { IfOk result (λ step. step ≡ step_in words.now) }
 {
     match words {

@@ -70,8 +70,8 @@ pub(crate) fn check_text(word: &[u8]) -> Result<(), LineFault>
     Ok(())
 }
 
-/// The text that the word stands for.
-pub(crate) fn copy_text(alloc: Global, word: &[u8]) -> Result<Bytes, AllocError>
+/// The text that the word stands for. Costs the bytes of the word.
+pub fn copy_text(alloc: Global, word: &[u8]) -> Result<Bytes, AllocError>
     ensures { IfOk result (λ text. text ≡ percent.percent_decode word.now) }
 {
     let bytes = decode(alloc, word)?;
@@ -107,8 +107,8 @@ fn is_decoded_name(piece: &[u8]) -> bool
     is_name(letters.as_slice())
 }
 
-/// Whether a piece of a path stands for a name.
-fn stands_for_name(piece: &[u8]) -> bool
+/// Whether a word, or a piece of a path, stands for a name. Costs its bytes.
+pub fn stands_for_name(piece: &[u8]) -> bool
     ensures { result ≡ is_name (percent.percent_decode piece.now) }
 {
     is_plain_name(piece) || is_decoded_name(piece)
@@ -131,8 +131,9 @@ fn check_names(text: &[u8]) -> Result<(), LineFault>
     Ok(())
 }
 
-/// Whether the word is a path.
-pub(crate) fn check_path(word: &[u8]) -> Result<(), LineFault>
+/// Whether the word is a path. Fails with `BadPath`, and takes no memory. Costs the bytes of the
+/// word.
+pub fn check_path(word: &[u8]) -> Result<(), LineFault>
     ensures { checked result (path_in word.now) ≡ path_of word.now }
 {
     match word.split_first() {
@@ -142,8 +143,8 @@ pub(crate) fn check_path(word: &[u8]) -> Result<(), LineFault>
     }
 }
 
-/// The name that a piece of a path stands for.
-fn copy_name(alloc: Global, piece: &[u8]) -> Result<Name, AllocError>
+/// The name that a word, or a piece of a path, stands for. Costs its bytes.
+pub fn copy_name(alloc: Global, piece: &[u8]) -> Result<Name, AllocError>
     ensures { IfOk result (λ name. name ≡ percent.percent_decode piece.now) }
 {
     let letters = decode(alloc, piece)?;
@@ -162,8 +163,8 @@ fn copy_names(alloc: Global, text: &[u8]) -> Result<Path, AllocError>
     Ok(Path::new(names))
 }
 
-/// The path that the word stands for.
-pub(crate) fn copy_path(alloc: Global, word: &[u8]) -> Result<Path, AllocError>
+/// The path that the word stands for. Costs the bytes of the word.
+pub fn copy_path(alloc: Global, word: &[u8]) -> Result<Path, AllocError>
     ensures { IfOk result (λ path. path ≡ path_in word.now) }
 {
     match word.split_first() {

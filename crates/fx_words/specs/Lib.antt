@@ -1,2 +1,7 @@
 pub mod Faults
 pub mod Lines
+pub mod Said
+pub mod Parts
+pub mod LineWords
+pub mod FullText
+pub mod FullScript
