@@ -1,0 +1,14 @@
+pub mod Seen
+pub mod Ranks
+pub mod Buried
+pub mod Near
+pub mod Attributes
+pub mod Runs
+pub mod Taken
+pub mod Tombstones
+pub mod Upkeep
+pub mod InOrder
+pub mod Onces
+pub mod Counted
+pub mod Directories
+pub mod Freed
