@@ -1,0 +1,4 @@
+pub mod Saying
+pub mod Plans
+pub mod Keys
+pub mod Planned
