@@ -1,0 +1,11 @@
+mod Told
+mod ReadSteps
+mod Supers
+mod LayerRuns
+mod Records
+mod Sums
+mod Batches
+mod Alive
+mod Judged
+mod OneFound
+mod Numbered
