@@ -30,8 +30,8 @@ pub fn names<L: Look>(alloc: Global, look: &L, at: LockKey) -> Result<Names, Loo
     Ok(Names::new(names))
 }
 
-/// The first child's name from a name on.
-fn next_child<L: Look>(
+/// The first child's name from a name on. One look. No name comes before the empty one.
+pub fn next_child<L: Look>(
     alloc: Global,
     look: &L,
     at: LockKey,
@@ -65,7 +65,7 @@ fn child_name(at: LockKey, item: Option<Item>) -> Option<Name>
 }
 
 /// The least name above a name: the same with a zero behind it.
-fn name_after(alloc: Global, name: &Name) -> Result<Name, AllocError>
+pub fn name_after(alloc: Global, name: &Name) -> Result<Name, AllocError>
     ensures { IfOk result (λ after. after ≡ name.now ++ 0 ∷ []) }
 {
     let mut letters = name.as_slice().to_vec(alloc)?;

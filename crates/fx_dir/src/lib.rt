@@ -4,8 +4,8 @@
 mod children;
 mod walk;
 
-pub use children::names;
-pub use walk::{Walk, WalkEnd, walk_path};
+pub use children::{name_after, names, next_child};
+pub use walk::{ROOT, Walk, WalkEnd, kind_of, walk_path};
 
 #[cfg(test)]
 mod sample;

@@ -120,8 +120,8 @@ fn led_to(value: Option<Value>) -> Option<LockKey>
     }
 }
 
-/// The kind of a node, where it is there.
-fn kind_of<L: Look>(alloc: Global, look: &L, at: LockKey) -> Result<Option<Kind>, LookFault>
+/// The kind of a node, where it is there. The root is a directory. At most one look.
+pub fn kind_of<L: Look>(alloc: Global, look: &L, at: LockKey) -> Result<Option<Kind>, LookFault>
     ensures found { IfOk result (λ found. found ≡ kind_of (map_of (L.said look.now)) at) }
     ensures fault { IfErr result (MayFail (L.lacks look.now)) }
 {

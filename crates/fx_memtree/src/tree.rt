@@ -53,8 +53,8 @@ impl MemoryTree {
     /// Does the step, or refuses it and leaves the tree as it was. An `Err`, for want of memory,
     /// leaves the tree as it was too; a count past 32 bits is no reason for one. Costs the depth of
     /// the path times the logarithm of the number of nodes, and the bytes that are written, or read
-    /// and answered; at a directory, to list it or to tell of it costs a look-up for each child, and
-    /// to move it one for each node that moves.
+    /// and answered; at a directory, to list it, to tell of it or to remove it costs a look-up for
+    /// each child, and to move it one for each node that moves.
     pub fn step(
         &mut self,
         alloc: Global,

@@ -25,8 +25,8 @@ pub record IsBlockFor (ring epoch : ℕ) (blocks : List Queued) (b : ℕ) (value
     pub place : place_in ring block ≡ b
     pub bytes : value ≡ bytes_in epoch block
 
--- What a stop may leave in the block of the disk is what stood there at the mount, or one of the
--- closed blocks that belong there; and only such blocks were written there since.
+-- What a stop leaves in the block of the disk, if it tears no block, is what stood there at the
+-- mount, or one of the closed blocks that belong there; and only such blocks were written there since.
 pub record IsTriedBy (ring epoch : ℕ) (blocks : List Queued) (b : ℕ) (before now : Cell) : Type 0
   where
     pub held : (value : List ℕ) → Contains (candidates now) value →
