@@ -29,7 +29,7 @@ use Rattle.fx_parts.specs.Sound.{IsSharedSound}
 use Rattle.fx_parts.specs.Happening.{opened_state}
 use Rattle.fx_parts.proofs.Opening.{opened_sound}
 use Rattle.fx_core.specs.Core.{BeginsCore, LeavesHistory, OpensAs}
-use Rattle.fx_core.specs.Inside.{GiftEnd, HoldsReached, IsCore, wanted_by}
+use Rattle.fx_core.specs.Inside.{GivenLimits, HoldsReached, IsCore, wanted_by}
 use Rattle.fx_core.specs.Tail.{IsTail, TailState}
 use Rattle.fx_core.proofs.Calls.{HoldsCore}
 use Rattle.fx_core.proofs.Moves.{done_all}
@@ -64,7 +64,7 @@ module _ (law : AfterAllLaw) {seen : DiskSeen} {from : ℕ} {txns : Transactions
   makes : MakesNames (live_in_lists (lists_in levels)) b.tree
   makes = subst (λ (ls : List (List PlainItem)). MakesNames (live_in_lists ls) b.tree) (sym b.lists) (makes_opening law mounted txns b.stands b.is_bare)
 
-  module _ (n : NumbersState) (opened : IsOpened found levels n) (t : TailState) (t_is : t ≡ record { ring = ring; pool = pool; wants = replicate 33 0; reached = replicate (found.ring + 2) 0; written = ring.closed; done = found.kept }) (end : GiftEnd)
+  module _ (n : NumbersState) (opened : IsOpened found levels n) (t : TailState) (t_is : t ≡ record { ring = ring; pool = pool; wants = replicate 33 0; reached = replicate (found.ring + 2) 0; written = ring.closed; done = found.kept }) (end : GivenLimits)
       (ids_end : end.ids ≡ found.ids + 2 ^ 23) (stores_end : end.stores ≡ found.stores + 2 ^ 23) where
     none_reached : (k : ℕ) → get_or t.reached k 0 ≡ 0
     none_reached k = ap (λ (v : TailState). get_or v.reached k 0) t_is ∙ zeros (found.ring + 2) k
@@ -112,7 +112,7 @@ module _ (law : AfterAllLaw) {seen : DiskSeen} {from : ℕ} {txns : Transactions
 
 -- ---- what is so of each core
 
-module _ {seen : DiskSeen} {from : ℕ} {txns : Transactions} {end : GiftEnd} (n : NumbersState) {t : TailState} (h : HoldsCore seen from txns end n t) where
+module _ {seen : DiskSeen} {from : ℕ} {txns : Transactions} {end : GivenLimits} (n : NumbersState) {t : TailState} (h : HoldsCore seen from txns end n t) where
   -- the transactions stand for one tree
   opening_is : (tree : Tree) → OpensAs txns tree → tree ≡ h.0
   opening_is tree o =

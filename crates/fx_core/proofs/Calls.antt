@@ -20,7 +20,7 @@ use Rattle.fx_numbers.specs.State.{HasUsedPart, IsStep, IsStepBy, MayStep, Numbe
 use Rattle.fx_parts.specs.Parts.{Part, Reservation, SharedState}
 use Rattle.fx_parts.specs.Happening.{Commit, Count, Mark, MayHappen, Reserve, RollBack, SharedEvent, after_event}
 use Rattle.fx_core.specs.Events.{IsQuiet}
-use Rattle.fx_core.specs.Inside.{GiftEnd, IsCore, blocks_wanted}
+use Rattle.fx_core.specs.Inside.{GivenLimits, IsCore, blocks_wanted}
 use Rattle.fx_core.specs.Tail.{IsTail, TailState, last_in, reach}
 use Rattle.fx_core.proofs.Noted.{history_length}
 use Rattle.fx_core.proofs.Staying.{settled_mark}
@@ -48,41 +48,41 @@ some_queued ring before sequence e = by ring.queued refl (nat_lt (number (first_
     by (suc q) is low f = omega (arith, is)
 
 -- whatever tree was found
-abbrev pub HoldsCore : DiskSeen → ℕ → Transactions → GiftEnd → NumbersState → TailState → Type 0
+abbrev pub HoldsCore : DiskSeen → ℕ → Transactions → GivenLimits → NumbersState → TailState → Type 0
 HoldsCore seen from txns end n t = (tree : Tree) × IsCore seen from txns end (shared_of tree n) t
 
-pub core_step : {seen : DiskSeen} {from : ℕ} {txns : Transactions} {end : GiftEnd} {old new : NumbersState} {t : TailState} → HoldsCore seen from txns end old t → (event : SharedEvent) → IsQuiet event → IsStep old new event → HoldsCore seen from txns end new t
+pub core_step : {seen : DiskSeen} {from : ℕ} {txns : Transactions} {end : GivenLimits} {old new : NumbersState} {t : TailState} → HoldsCore seen from txns end old t → (event : SharedEvent) → IsQuiet event → IsStep old new event → HoldsCore seen from txns end new t
 core_step {seen} {from} {txns} {end} {old} {new} {t} h event quiet step =
     (h.0, subst (λ (s : SharedState). IsCore seen from txns end s t) (sym (step.does h.0)) (core_quiet seen from txns end (shared_of h.0 old) t event h.1 quiet (step.may h.0)))
 
 -- nothing has changed
-pub core_still : {seen : DiskSeen} {from : ℕ} {txns : Transactions} {end : GiftEnd} {old new : NumbersState} {t : TailState} → HoldsCore seen from txns end old t → new ≡ old → HoldsCore seen from txns end new t
+pub core_still : {seen : DiskSeen} {from : ℕ} {txns : Transactions} {end : GivenLimits} {old new : NumbersState} {t : TailState} → HoldsCore seen from txns end old t → new ≡ old → HoldsCore seen from txns end new t
 core_still {seen} {from} {txns} {end} {old} {new} {t} h e = subst (λ (n : NumbersState). HoldsCore seen from txns end n t) (sym e) h
 
 -- ---- what a core knows
 
 -- ids stay far below their bounds
-pub core_low : (n : NumbersState) {seen : DiskSeen} {from : ℕ} {txns : Transactions} {end : GiftEnd} {t : TailState} → HoldsCore seen from txns end n t → (end.ids ≤ 2 ^ 62) × (end.stores ≤ 2 ^ 31) × (n.ids ≤ end.ids) × (n.stores ≤ end.stores)
+pub core_low : (n : NumbersState) {seen : DiskSeen} {from : ℕ} {txns : Transactions} {end : GivenLimits} {t : TailState} → HoldsCore seen from txns end n t → (end.ids ≤ 2 ^ 62) × (end.stores ≤ 2 ^ 31) × (n.ids ≤ end.ids) × (n.stores ≤ end.stores)
 core_low n h = let k = h.1 in let room = k.mounted.journal.reading.room in
-    (omega (arith, ap (λ (e : GiftEnd). e.ids) k.end_is, room.ids_left), omega (arith, ap (λ (e : GiftEnd). e.stores) k.end_is, room.stores_left), k.ids, k.stores)
+    (omega (arith, ap (λ (e : GivenLimits). e.ids) k.end_is, room.ids_left), omega (arith, ap (λ (e : GivenLimits). e.stores) k.end_is, room.stores_left), k.ids, k.stores)
 
 -- a number that is in use is one of 1 to 32
-pub core_number : (n : NumbersState) {seen : DiskSeen} {from : ℕ} {txns : Transactions} {end : GiftEnd} {t : TailState} → HoldsCore seen from txns end n t → (who : ℕ) (part : Part) → finite.get n.parts who ≡ Some part → who ≤ 32
+pub core_number : (n : NumbersState) {seen : DiskSeen} {from : ℕ} {txns : Transactions} {end : GivenLimits} {t : TailState} → HoldsCore seen from txns end n t → (who : ℕ) (part : Part) → finite.get n.parts who ≡ Some part → who ≤ 32
 core_number n h who part is = (h.1.shared.numbers who part is).1
 
 -- what is promised to it is what its reservation wants
-pub core_wants : (n : NumbersState) {seen : DiskSeen} {from : ℕ} {txns : Transactions} {end : GiftEnd} {t : TailState} → HoldsCore seen from txns end n t → (who : ℕ) (part : Part) → finite.get n.parts who ≡ Some part → get_or t.wants who 0 ≡ blocks_wanted part.reserved
+pub core_wants : (n : NumbersState) {seen : DiskSeen} {from : ℕ} {txns : Transactions} {end : GivenLimits} {t : TailState} → HoldsCore seen from txns end n t → (who : ℕ) (part : Part) → finite.get n.parts who ≡ Some part → get_or t.wants who 0 ≡ blocks_wanted part.reserved
 core_wants n h who part is = h.1.wants who ∙ ap (λ (o : Option Part). elim o [ Some p ↦ blocks_wanted p.reserved | None ↦ 0 ]) is
 
 -- ---- reservations
 
-pub core_reserve : {seen : DiskSeen} {from : ℕ} {txns : Transactions} {end : GiftEnd} {old new : NumbersState} {t : TailState} → HoldsCore seen from txns end old t → (who : ℕ) (need : Need) (bytes : ℕ) (part : Part) → finite.get old.parts who ≡ Some part → part.reserved ≡ None
+pub core_reserve : {seen : DiskSeen} {from : ℕ} {txns : Transactions} {end : GivenLimits} {old new : NumbersState} {t : TailState} → HoldsCore seen from txns end old t → (who : ℕ) (need : Need) (bytes : ℕ) (part : Part) → finite.get old.parts who ≡ Some part → part.reserved ≡ None
     → (u : TailState) → who < length t.wants → ((queue : List Queued) → HoldsQueue t.ring t.pool queue → HoldsQueue u.ring u.pool queue) → Promises t.ring u.ring t.pool u.pool (want bytes)
     → u ≡ record t { ring = u.ring; pool = u.pool; wants = set t.wants who (want bytes) } → old.ids + need.nodes ≤ end.ids → old.stores + need.nodes ≤ end.stores → IsStep old new (Reserve who need bytes) → HoldsCore seen from txns end new u
 core_reserve {seen} {from} {txns} {end} h who need bytes part is none u lt queue p e i k step =
     (h.0, subst (λ (s : SharedState). IsCore seen from txns end s u) (sym (step.does h.0)) (core_reserved h.1 who part is u lt queue need bytes none p e i k))
 
-pub core_rollback : {seen : DiskSeen} {from : ℕ} {txns : Transactions} {end : GiftEnd} {old new : NumbersState} {t : TailState} → HoldsCore seen from txns end old t → (who : ℕ) (part : Part) → finite.get old.parts who ≡ Some part
+pub core_rollback : {seen : DiskSeen} {from : ℕ} {txns : Transactions} {end : GivenLimits} {old new : NumbersState} {t : TailState} → HoldsCore seen from txns end old t → (who : ℕ) (part : Part) → finite.get old.parts who ≡ Some part
     → (u : TailState) → who < length t.wants → ((queue : List Queued) → HoldsQueue t.ring t.pool queue → HoldsQueue u.ring u.pool queue) → Cancels t.ring u.ring t.pool u.pool (get_or t.wants who 0)
     → u ≡ record t { ring = u.ring; pool = u.pool; wants = set t.wants who 0 } → IsStep old new (RollBack who) → HoldsCore seen from txns end new u
 core_rollback {seen} {from} {txns} {end} h who part is u lt queue p e step =
@@ -113,7 +113,7 @@ module _ (t u v : TailState) (who x : ℕ) (lt : who < length t.wants) (none : g
   unreserved_tail = f ∙ ap (λ (ws : List ℕ). record u { ring = v.ring; pool = v.pool; wants = ws }) (sym (ap (λ (w : TailState). w.wants) f) ∙ wants_v) ∙ ap (λ (w : TailState). record w { ring = v.ring; pool = v.pool; wants = t.wants }) e
 
 -- which buffers are out is no matter
-pub core_unreserved : (n : NumbersState) {seen : DiskSeen} {from : ℕ} {txns : Transactions} {end : GiftEnd} {t : TailState} → HoldsCore seen from txns end n t → (v : TailState) → ((queue : List Queued) → HoldsQueue t.ring t.pool queue → HoldsQueue v.ring v.pool queue)
+pub core_unreserved : (n : NumbersState) {seen : DiskSeen} {from : ℕ} {txns : Transactions} {end : GivenLimits} {t : TailState} → HoldsCore seen from txns end n t → (v : TailState) → ((queue : List Queued) → HoldsQueue t.ring t.pool queue → HoldsQueue v.ring v.pool queue)
     → v.ring ≡ record t.ring { buffers = v.ring.buffers } → v ≡ record t { ring = v.ring; pool = v.pool } → HoldsCore seen from txns end n v
 core_unreserved n {seen} {from} {txns} {end} {t} h v queue ring tail = (
   h.0,
@@ -137,7 +137,7 @@ core_unreserved n {seen} {from} {txns} {end} {t} h v queue ring tail = (
 
 -- ---- the disk
 
-module _ (n : NumbersState) {seen : DiskSeen} {from : ℕ} {txns : Transactions} {end : GiftEnd} {t : TailState} (h : HoldsCore seen from txns end n t) where
+module _ (n : NumbersState) {seen : DiskSeen} {from : ℕ} {txns : Transactions} {end : GivenLimits} {t : TailState} (h : HoldsCore seen from txns end n t) where
   pub core_pad : (u : TailState) → u ≡ record t { ring = u.ring; pool = u.pool } → u.ring ≡ padded t.ring → IsTail u → ((queue : List Queued) → HoldsQueue t.ring t.pool queue → HoldsQueue u.ring u.pool (queue ++ padding t.ring)) → HoldsCore seen from txns end n u
   core_pad u e pads is queue = (h.0, core_padded h.1 u e pads is.buffers.ring_is queue)
 
@@ -212,6 +212,9 @@ wrote_none None e = refl
 wrote_none (Some n) e = absurd (cc)
 
 -- what is settled after a mark
+pub counted_settled : (n m : NumbersState) (faults : ℕ) → IsStep n m (Count faults) → Tree → settled_upto m.kept m.notes ≡ settled_upto n.kept n.notes
+counted_settled n m faults step tree = ap (λ (s : SharedState). settled_upto s.mounted.kept s.notes) (step.does tree)
+
 pub core_marked_is : (m marked : NumbersState) (done calls : ℕ) → IsStepBy m marked (Mark done calls) → Tree → settled_upto marked.kept marked.notes ≡ done
 core_marked_is m marked done calls does tree = ap (λ (s : SharedState). settled_upto s.mounted.kept s.notes) (does tree) ∙ settled_mark m.kept m.notes done calls
 
@@ -240,7 +243,7 @@ writable_numbered part entry number items w = let p = w.planned in record {
   sayable = w.sayable;
 }
 
-module _ (n : NumbersState) {seen : DiskSeen} {from : ℕ} {txns : Transactions} {end : GiftEnd} {t : TailState} (h : HoldsCore seen from txns end n t)
+module _ (n : NumbersState) {seen : DiskSeen} {from : ℕ} {txns : Transactions} {end : GivenLimits} {t : TailState} (h : HoldsCore seen from txns end n t)
     (who : ℕ) (entry : Entry) (text : List ℕ) (items : List PlainItem) (used : HasUsedPart n who (IsPreparedFor who entry text items)) where
   abbrev part : Part
   part = used.0

@@ -8,3 +8,5 @@ pub mod Reaching
 pub mod Moves
 pub mod Calls
 pub mod Begun
+pub mod First
+pub mod FirstTest

@@ -33,7 +33,7 @@ use Rattle.fx_parts.specs.Sound.{IsSharedSound}
 use Rattle.fx_parts.specs.Happening.{Commit, Count, Mark, MayHappen, Reserve, RollBack, after_event, part_committed, set_part, with_reserved}
 use Rattle.fx_parts.proofs.Events.{by_there, event_sound}
 use Rattle.fx_parts.proofs.Maps.{get_other, get_same}
-use Rattle.fx_core.specs.Inside.{HoldsReached, GiftEnd, IsCore, LiesIn, since_mount, blocks_wanted, wanted_by}
+use Rattle.fx_core.specs.Inside.{HoldsReached, GivenLimits, IsCore, LiesIn, since_mount, blocks_wanted, wanted_by}
 use Rattle.fx_core.specs.Logged.{IsLogged}
 use Rattle.fx_core.specs.Tail.{TailState, last_in, reach}
 use Rattle.fx_core.proofs.Reaching.{TakesText, closed_is, commits_fewer, lies_long, reached_same, written_longer, written_so}
@@ -53,7 +53,7 @@ wants_then wants parts who new x lt same h w = elim (cases_eq w who) [
   | inr ne ↦ get_or-set_other wants who w x 0 ne ∙ h w ∙ sym (ap wanted_of (get_other parts who w new ne))
 ]
 
-module _ {seen : DiskSeen} {from : ℕ} {txns : Transactions} {end : GiftEnd} {s : SharedState} {t : TailState} (h : IsCore seen from txns end s t) where
+module _ {seen : DiskSeen} {from : ℕ} {txns : Transactions} {end : GivenLimits} {s : SharedState} {t : TailState} (h : IsCore seen from txns end s t) where
   abbrev j : Journal
   j = h.journal
 
@@ -427,7 +427,7 @@ module _ {seen : DiskSeen} {from : ℕ} {txns : Transactions} {end : GiftEnd} {s
     next : IsNextCommit j entry items
     next = next_commit seen.calls s j h.shared h.logged h.mounted.journal entry items may.1 are
         (commits-few j seen.calls h.mounted.journal (omega (arith, old_ring.unfinished_room, ap length h.mounted.ring_is.text)))
-        (omega (arith, id, h.ids, ap (λ (e : GiftEnd). e.ids) h.end_is)) (omega (arith, store, h.stores, ap (λ (e : GiftEnd). e.stores) h.end_is))
+        (omega (arith, id, h.ids, ap (λ (e : GivenLimits). e.ids) h.end_is)) (omega (arith, store, h.stores, ap (λ (e : GivenLimits). e.stores) h.end_is))
 
     mounted-then : IsMounted k seen u.ring u.pool
     mounted-then = mounted-commit j seen t.ring t.pool h.mounted entry items next u.ring u.pool ring_is on.start on.size on.epoch on.queued a

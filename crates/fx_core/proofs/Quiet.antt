@@ -12,7 +12,7 @@ use Rattle.fx_parts.specs.Happening.{AskKey, Commit, Count, DropSnapshot, Enter,
 use Rattle.fx_parts.proofs.Events.{event_sound}
 use Rattle.fx_parts.proofs.Maps.{get_other, get_same, gone_other, gone_same}
 use Rattle.fx_core.specs.Events.{IsQuiet, LeavesJournal}
-use Rattle.fx_core.specs.Inside.{GiftEnd, IsCore, blocks_wanted, wanted_by}
+use Rattle.fx_core.specs.Inside.{GivenLimits, IsCore, blocks_wanted, wanted_by}
 use Rattle.fx_core.specs.Tail.{TailState}
 use Rattle.fx_core.proofs.Staying.{logged_leaves}
 
@@ -97,7 +97,7 @@ leaves_so (Tidy lists) q = tt
 leaves_so (Count faults) q = absurd q
 
 -- the core over a quiet event
-pub core_quiet : (seen : DiskSeen) (from : ℕ) (txns : Transactions) (end : GiftEnd) (s : SharedState) (t : TailState) (event : SharedEvent) → IsCore seen from txns end s t → IsQuiet event → MayHappen MakesNames s event → IsCore seen from txns end (after_event s event) t
+pub core_quiet : (seen : DiskSeen) (from : ℕ) (txns : Transactions) (end : GivenLimits) (s : SharedState) (t : TailState) (event : SharedEvent) → IsCore seen from txns end s t → IsQuiet event → MayHappen MakesNames s event → IsCore seen from txns end (after_event s event) t
 core_quiet seen from txns end s t event h q may =
     let k = quiet s event q may in
     record {

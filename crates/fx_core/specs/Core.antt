@@ -1,17 +1,19 @@
 -- What is seen of a mounted core.
-use Rattle.std.specs.Prelude.{◌≡◌, ◌⊎◌, ℕ, ◌+◌, ◌<◌, ◌≤◌, List, [], length, reverse}
+use Rattle.std.specs.Prelude.{◌≡◌, ◌⊎◌, ℕ, ◌+◌, ◌<◌, ◌≤◌, List, [], length, reverse, replicate, get_or, set}
 use Rattle.fx_item.specs.Item.{PlainItem}
 use Rattle.fx_item.specs.declared.space.Need.{Need}
 use Rattle.fx_plain.specs.Tree.{Tree}
 use Rattle.fx_disk.specs.Record.{DiskRecord}
-use Rattle.fx_journal.specs.Ring.{RingState, begun, live, want}
+use Rattle.fx_journal.specs.Ring.{Appended, Cancels, HoldsQueue, Promises, Queued, RingState, live, want, without_first}
 use Rattle.fx_record.specs.Record.{TransactionRecord, record_bytes}
 use Rattle.fx_history.specs.declared.entry.Entry.{Entry}
-use Rattle.fx_events.specs.Notes.{history_in}
+use Rattle.fx_events.specs.Notes.{history_in, settled_upto}
 use Rattle.fx_image.specs.Standing.{StandsFor, Transactions, items_after, lists_of}
 use Rattle.fx_image.specs.Prefix.{KeepsPrefix}
+use Rattle.fx_log.specs.Chosen.{start_of}
 use Rattle.fx_log.specs.Raising.{ChoosesNext, ChoosesSince}
-use Rattle.fx_numbers.specs.State.{IsOpened, NumbersState, lists_in}
+use Rattle.fx_parts.specs.Happening.{Count, Mark}
+use Rattle.fx_numbers.specs.State.{IsOpened, IsStep, NumbersState, lists_in}
 use Rattle.fx_numbers.specs.declared.given.Found.{Found}
 use Rattle.fx_layerset.specs.Levels.{SetLevels}
 use Rattle.fx_item.specs.Look.{next_id_after, next_store_after}
@@ -23,13 +25,13 @@ use Rattle.fx_super.specs.Super.{Fields}
 use Rattle.fx_jblock.specs.declared.Start.{Start}
 use Rattle.fx_journal.specs.declared.stream.StreamBlock.{StreamBlock}
 use Rattle.fx_supers.specs.Supers.{Supers}
-use Rattle.fx_image.specs.Journal.{new_journal}
+use Rattle.fx_image.specs.Journal.{max_given, new_journal}
 use Rattle.fx_image.specs.Mounted.{IsMounted}
 use Rattle.fx_parts.specs.Live.{IsUnusedNode, live_in_lists}
 use Rattle.fx_parts.specs.Parts.{IsNotGiven, Part}
-use Rattle.fx_core.specs.Inside.{GiftEnd}
+use Rattle.fx_core.specs.Inside.{GivenLimits}
 use Rattle.fx_core.specs.Logged.{IsWritable}
-use Rattle.fx_core.specs.Tail.{HasRingBuffers, TailState}
+use Rattle.fx_core.specs.Tail.{HasRingBuffers, TailState, last_in, reach}
 use Rattle.fx_core.specs.declared.reserving.ReserveRefusal.{ReserveRefusal}
 use Rattle.fx_core.specs.declared.reserving.ReserveRefusal.TheVariants as refusals
 use Rattle.fx_journal.specs.Writing.{counts}
@@ -40,13 +42,9 @@ pub record CoreState (Device : Type 0) : Type 0 where
   pub disk : Device
   pub from : ℕ
   pub txns : Transactions
-  pub end : GiftEnd
+  pub end : GivenLimits
   pub numbers : NumbersState
   pub tail : TailState
-
--- the blocks that wait to be written, the unfinished one among them where it holds bytes
-abbrev pub waiting : RingState → ℕ
-waiting ring = ring.queued + begun ring.text
 
 -- the transactions that were found stand for this tree, without what files hold
 abbrev pub OpensAs : Transactions → Tree → Type 0
@@ -82,13 +80,14 @@ AreSpent s need =
 abbrev pub HasNoPlace : RingState → ℕ → Type 0
 HasNoPlace ring bytes = ring.size < live ring + ring.promised + want bytes + 1
 
--- why nothing was reserved
+-- why nothing was reserved, the first that is so
 abbrev pub IsReserveCause : {Device : Type 0} → CoreState Device → Need → ℕ → ReserveRefusal
     → Type 0
 IsReserveCause s need bytes refusals.Spent = AreSpent s need
 IsReserveCause s need bytes (refusals.Full full) =
-    HasNoPlace s.tail.ring bytes × (full ≡ counts s.tail.ring bytes)
-IsReserveCause s need bytes refusals.OutOfMemory = Unit {0}
+    (AreSpent s need → ⊥) × HasNoPlace s.tail.ring bytes × (full ≡ counts s.tail.ring bytes)
+IsReserveCause s need bytes refusals.OutOfMemory =
+    (AreSpent s need → ⊥) × (HasNoPlace s.tail.ring bytes → ⊥)
 
 -- Nothing has changed but which buffers are out.
 pub record IsUnreserved {Device : Type 0} (old new : CoreState Device) : Type 0 where
@@ -96,6 +95,51 @@ pub record IsUnreserved {Device : Type 0} (old new : CoreState Device) : Type 0 
   pub numbers : new.numbers ≡ old.numbers
   pub tail : new.tail ≡ record old.tail { ring = new.tail.ring; pool = new.tail.pool }
   pub ring : new.tail.ring ≡ record old.tail.ring { buffers = new.tail.ring.buffers }
+
+-- So many blocks of the ring are promised to the number.
+pub record HasPromised (old new : TailState) (who count : ℕ) : Type 0 where
+  pub ring : Promises old.ring new.ring old.pool new.pool count
+  pub rest : new ≡ record old {
+    ring = new.ring;
+    pool = new.pool;
+    wants = set old.wants who count;
+  }
+
+-- What was promised to the number is given back.
+pub record HasCancelled (old new : TailState) (who : ℕ) : Type 0 where
+  pub ring : Cancels old.ring new.ring old.pool new.pool (get_or old.wants who 0)
+  pub rest : new ≡ record old { ring = new.ring; pool = new.pool; wants = set old.wants who 0 }
+
+-- The record of the commit waits, behind all that waited. What was promised to the number is used up
+-- or given back.
+pub record HasAppended (old new : TailState) (who commit : ℕ) (text : List ℕ) : Type 0 where
+  pub queue : (queue : List Queued) → HoldsQueue old.ring old.pool queue
+      → Appended old.ring new.ring new.pool queue text
+  pub promised : new.ring.promised + get_or old.wants who 0 ≡ old.ring.promised
+  pub rest : new ≡ record old {
+    ring = new.ring;
+    pool = new.pool;
+    wants = set old.wants who 0;
+    reached = set old.reached (reach new.ring) commit;
+  }
+
+-- One block more is written, and with it the commits whose records end there.
+pub record HasWrittenOne (old new : TailState) : Type 0 where
+  pub ring : new.ring ≡ without_first old.ring
+  pub rest : new ≡ record old {
+    ring = new.ring;
+    pool = new.pool;
+    written = old.written + 1;
+    done = last_in old.reached (old.written + 1) old.done;
+  }
+
+-- The disk's faults are counted; then the commits up to this one are settled by so many calls, where
+-- some of them were not.
+pub record HasMarked (old new : NumbersState) (faults done calls : ℕ) : Type 0 where
+  pub counted : NumbersState
+  pub count : IsStep old counted (Count faults)
+  pub mark : settled_upto old.kept old.notes < done → IsStep counted new (Mark done calls)
+  pub still : done ≤ settled_upto old.kept old.notes → new ≡ counted
 
 -- the entry under this number
 abbrev pub numbered_entry : ℕ → Entry → Entry
@@ -122,6 +166,8 @@ pub record BeginsCore (seen : DiskSeen) (from : ℕ) (txns : Transactions) (foun
   pub stores : found.stores ≡ next_store_after super.next_store (lists_of txns)
   pub unused : (node : NodeId) → IsNotGiven found.ids found.stores node
       → IsUnusedNode (live_in_lists (lists_in levels)) node
+  pub base : found.base ≡ super.base
+  pub blocks : found.blocks ≡ seen.size
   pub faults : found.faults ≡ seen.faults
   pub size : found.ring ≡ ring.size
   pub buffers : HasRingBuffers ring pool
@@ -131,9 +177,47 @@ pub record BeginsCore (seen : DiskSeen) (from : ℕ) (txns : Transactions) (foun
 
 -- A core that has just begun: nothing happened yet.
 pub record HasBegunCore {Device : Type 0} (disk : Device) (from : ℕ) (txns : Transactions)
-    (found : Found) (levels : SetLevels) (ring : RingState) (s : CoreState Device) : Type 0 where
+    (found : Found) (levels : SetLevels) (ring : RingState) (pool : Region)
+    (s : CoreState Device) : Type 0 where
   pub disk_is : s.disk ≡ disk
   pub from_is : s.from ≡ from
   pub txns_is : s.txns ≡ txns
+  pub end_is : s.end ≡ record {
+    ids = found.ids + max_given;
+    stores = found.stores + max_given;
+  }
   pub numbers : IsOpened found levels s.numbers
-  pub ring_is : s.tail.ring ≡ ring
+  pub tail_is : s.tail ≡ record {
+    ring = ring;
+    pool = pool;
+    wants = replicate 33 0;
+    reached = replicate (found.ring + 2) 0;
+    written = ring.closed;
+    done = found.kept;
+  }
+
+-- ---- the first beginning
+
+-- What is found of a disk with this superblock and no transaction.
+pub record IsFoundFirst (seen : DiskSeen) (f : Fields) (found : Found) : Type 0 where
+  pub kept : found.kept ≡ f.base
+  pub base : found.base ≡ f.base
+  pub blocks : found.blocks ≡ seen.size
+  pub ids : found.ids ≡ f.next_id
+  pub stores : found.stores ≡ f.next_store
+  pub faults : found.faults ≡ seen.faults
+  pub ring : found.ring ≡ f.ring
+
+-- The ring goes on from the superblock's place, under the next generation, and has nothing.
+abbrev pub IsFirstRing : Fields → RingState → Type 0
+IsFirstRing f ring = ring ≡ record {
+  start = start_of f;
+  size = f.ring;
+  epoch = f.generation + 1;
+  closed = 0;
+  chain = (start_of f).chain;
+  text = [];
+  promised = 0;
+  queued = 0;
+  buffers = [];
+}

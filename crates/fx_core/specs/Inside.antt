@@ -14,7 +14,7 @@ use Rattle.fx_parts.specs.Sound.{IsSharedSound}
 use Rattle.fx_core.specs.Logged.{IsLogged}
 use Rattle.fx_core.specs.Tail.{TailState, reach}
 
--- how many blocks a reservation wants, and what is blocks_wanted by the part of a number
+-- how many blocks of the ring a reservation wants, and how many the part of a number does
 abbrev pub blocks_wanted : Option Reservation → ℕ
 blocks_wanted None = 0
 blocks_wanted (Some r) = want r.bytes
@@ -49,13 +49,13 @@ pub record HoldsReached (j : Journal) (t : TailState) : Type 0 where
       ⊎ ((k : ℕ) × (t.written < k) × (k ≤ reach t.ring)
       × (get_or t.reached k 0 ≡ j.opening.base + length j.commits.history))
 
--- how far ids and stores are given out
-pub record GiftEnd : Type 0 where
+-- below which ids and stores are given out
+pub record GivenLimits : Type 0 where
   pub ids : ℕ
   pub stores : ℕ
 
 -- The state of a disk that was mounted after `from` calls, with these transactions.
-pub record IsCore (seen : DiskSeen) (from : ℕ) (txns : Transactions) (end : GiftEnd)
+pub record IsCore (seen : DiskSeen) (from : ℕ) (txns : Transactions) (end : GivenLimits)
     (s : SharedState) (t : TailState) : Type 0 where
   pub journal : Journal
   pub size_is : journal.log.size ≡ seen.size

@@ -1,11 +1,17 @@
 //! Laws of the shared state and its journal, for those who prove. The functions do nothing.
-ghost use Rattle.std.specs.Prelude.{◌≡◌, ℕ, ◌+◌, ◌<◌, ◌≤◌, ◌^◌, IfSome, List, length, reverse};
+ghost use Rattle.std.specs.Prelude.{◌≡◌, ℕ, ◌+◌, ◌<◌, ◌≤◌, ◌^◌, IfSome, List, None, [], length, reverse};
 ghost use Rattle.fx_item.specs.Item.{PlainItem};
 ghost use Rattle.fx_item.specs.Look.{next_id, next_id_after, next_store, next_store_after};
 ghost use Rattle.fx_plain.specs.Bare.{bare};
 ghost use Rattle.fx_disk.specs.Seen.{DiskSeen};
 ghost use Rattle.fx_pool.specs.Region.{Region};
-ghost use Rattle.fx_super.specs.Super.{Fields};
+ghost use Rattle.fx_super.specs.Super.{Fields, KeepsRules};
+ghost use Rattle.fx_layerset.specs.Levels.{SetLevels};
+ghost use Rattle.fx_log.specs.Chosen.{layers_of, next_generation};
+ghost use Rattle.fx_numbers.specs.State.{lists_in};
+ghost use Rattle.fx_numbers.specs.declared.given.Found.{Found};
+ghost use Rattle.fx_core.specs.Core.{BeginsCore, IsFirstRing, IsFoundFirst};
+ghost use Rattle.fx_core.specs.Tail.{HasRingBuffers};
 ghost use Rattle.fx_jblock.specs.declared.Start.{Start};
 ghost use Rattle.fx_journal.specs.Ring.{Queued, RingState};
 ghost use Rattle.fx_journal.specs.declared.stream.StreamBlock.{StreamBlock};
@@ -16,7 +22,7 @@ ghost use Rattle.fx_events.specs.Notes.{Mounted, history_in};
 ghost use Rattle.fx_image.specs.Journal.{IsJournal, IsNextCommit, Journal, journal_id, journal_store, max_given, new_journal, opening_id, opening_store, with_commit, with_settled};
 ghost use Rattle.fx_image.specs.Mounted.{IsMounted};
 ghost use Rattle.fx_image.specs.Prefix.{KeepsPrefix};
-ghost use Rattle.fx_image.specs.Standing.{StandsFor, Transactions, items_after, lists_of};
+ghost use Rattle.fx_image.specs.Standing.{HasSessionRoom, StandsFor, Transactions, items_after, lists_of};
 ghost use Rattle.fx_parts.specs.Live.{MakesNames, live_in_lists};
 ghost use Rattle.fx_parts.specs.Parts.{IsPartOf, Part, SharedState};
 ghost use Rattle.fx_parts.specs.Sound.{IsSharedSound};
@@ -84,4 +90,15 @@ pub fn logged_laws()
         (ring : RingState) (region : Region) → IsLogged calls s j
         → IsMounted j seen ring region → IfSome seen.told (KeepsPrefix j.log.size j.log.from
         s.mounted.tree s.mounted.kept (history_in s.notes)) }
+{}
+
+/// A core can begin: on a disk that tells nothing of its bytes, under any superblock without layers
+/// whose next generation keeps the rules, with the ring that goes on from its place and no item.
+pub fn first_core_law()
+    ensures { (seen : DiskSeen) (f : Fields) (found : Found) (levels : SetLevels)
+        (ring : RingState) (pool : Region) → seen.told ≡ None → KeepsRules f
+        → KeepsRules (next_generation f) → f.blocks ≡ seen.size → layers_of f ≡ []
+        → HasSessionRoom f [] → IsFoundFirst seen f found → lists_in levels ≡ []
+        → IsFirstRing f ring → HasRingBuffers ring pool
+        → BeginsCore seen seen.calls [] found levels ring pool }
 {}

@@ -6,6 +6,11 @@ mod mounted;
 mod reserving;
 mod tail;
 
-pub use laws::{commit_laws, logged_laws, opening_laws};
-pub use mounted::{Core, CoreEnd, MAX_GIVEN, Mark, Mounted, Prepared};
+pub use laws::{commit_laws, first_core_law, logged_laws, opening_laws};
+pub use mounted::{Core, CoreEnd, Mark, Mounted, Prepared};
 pub use reserving::ReserveRefusal;
+
+#[cfg(test)]
+mod fake;
+#[cfg(test)]
+mod tests;

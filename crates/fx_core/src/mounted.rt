@@ -1,5 +1,5 @@
 //! A mounted core and its events.
-ghost use Rattle.std.specs.Prelude.{◌≡◌, ℕ, List, Ok, is_ok, ◌≢◌, ◌+◌, ◌<◌, ◌≤◌, ◌↔◌, ◌⊎◌, IfOk, IfErr, IfSome, OnOk, OnErr, IsTrue, None, Some, slice_get};
+ghost use Rattle.std.specs.Prelude.{◌≡◌, ◌++◌, ℕ, List, Ok, is_ok, ◌≢◌, ◌+◌, ◌<◌, ◌≤◌, ◌↔◌, ◌⊎◌, IfOk, IfErr, IfSome, OnOk, OnErr, IsTrue, None, Some, slice_get};
 ghost use Rattle.std.specs.Arc.{arc_value};
 ghost use Rattle.fx_disk.specs.Seen.{HasCalled, HasFlushed};
 ghost use Rattle.fx_plain.specs.Tree.{Tree};
@@ -10,17 +10,19 @@ ghost use Rattle.fx_parts.specs.Sound.{IsSharedSound};
 ghost use Rattle.fx_record.specs.Txns.{txns_of};
 ghost use Rattle.fx_parts.specs.Happening.{AskKey, Commit, Count, DropSnapshot, Enter, Leave, MakeRoom, MayAsk, MayRaise, Meet, RaiseKey, Reserve, RollBack, TakeSnapshot, Unlock};
 ghost use Rattle.fx_numbers.specs.Shots.{reservation_of, taken_of};
+ghost use Rattle.fx_numbers.specs.Slots.{reserved_at};
 ghost use Rattle.fx_numbers.specs.State.{HasFreeNumber, HasUsedPart, IsLeastFree, IsStep, IsStepBy, IsUsed, commit_now, reserved_next, shared_of, shot_now};
-ghost use Rattle.fx_journal.specs.Ring.{begun, next_block, next_place, number, padded, without_first};
-ghost use Rattle.fx_journal.specs.Writing.{wrote};
-ghost use Rattle.fx_core.specs.Core.{BeginsCore, HasBegunCore, HasNoPlace, LeavesHistory, OpensAs, IsPreparedFor, IsReserveCause, IsUnreserved, numbered_entry};
+ghost use Rattle.fx_journal.specs.Ring.{HoldsQueue, Queued, begun, next_block, next_place, number, padded, padding, want};
+ghost use Rattle.fx_journal.specs.Writing.{WritesFirst, wrote};
+ghost use Rattle.fx_record.specs.Record.{TransactionRecord, record_bytes};
+ghost use Rattle.fx_core.specs.Core.{AreSpent, BeginsCore, HasAppended, HasBegunCore, HasCancelled, HasMarked, HasNoPlace, HasPromised, HasWrittenOne, LeavesHistory, OpensAs, IsPreparedFor, IsReserveCause, IsUnreserved, numbered_entry};
 
 use crate::reserving::ReserveRefusal;
 use crate::tail::{NotOpened, Tail};
 use fx_batch::Batch;
 use fx_disk::{Disk, DiskFailed};
 use fx_history::Entry;
-use fx_item::Need;
+use fx_item::{MAX_GIVEN, Need};
 use fx_journal::{Ring, Wrote};
 use fx_keys::{Asked, LockKey, Mode};
 use fx_layerset::LayerSet;
@@ -70,9 +72,6 @@ pub struct CoreEnd<D> {
     pub numbers: Numbers,
 }
 
-/// The most ids, and the most stores, that a mount gives out.
-pub const MAX_GIVEN: u64 = 1 << 23;
-
 /// A mounted disk as events of up to 32 numbers (transactions): what they share, the ring of the
 /// journal, and the disk. Each call is one event.
 pub struct Core<D: Disk> {
@@ -119,7 +118,7 @@ impl<D: Disk> Core<D> {
         requires { BeginsCore (D.seen disk) found.from (txns_of found.txns) found.found
             found.set.levels found.ring found.pool }
         ensures begun { IfOk result (HasBegunCore disk found.from (txns_of found.txns) found.found
-            found.set.levels found.ring) }
+            found.set.levels found.ring found.pool) }
         ensures refused { IfErr result (λ same. same ≡ disk) }
     {
         fx_item::after_all_law();
@@ -158,6 +157,7 @@ impl<D: Disk> Core<D> {
             → IsSharedSound MakesNames (shared_of tree self.now.numbers) }
         ensures done { self.now.tail.ring.queued + begun self.now.tail.ring.text ≡ 0
             → self.now.tail.done ≡ commit_now self.now.numbers }
+        ensures faults { self.now.numbers.faults ≡ (D.seen self.now.disk).faults }
     {
         let _done = self.tail.done();
     }
@@ -200,6 +200,20 @@ impl<D: Disk> Core<D> {
         ensures { result ≡ self.now.numbers.faults }
     {
         self.numbers.faults()
+    }
+
+    /// Whether `enter` may be called: fewer than 32 numbers are in use. Costs a pass over these.
+    pub fn has_free(&self) -> bool
+        ensures { IsTrue result ↔ HasFreeNumber self.now.numbers }
+    {
+        self.numbers.has_free()
+    }
+
+    /// Whether something is reserved for the number; nothing where it is not in use.
+    pub fn reserved(&self, who: u32) -> Option<bool>
+        ensures { result ≡ reserved_at self.now.numbers.parts who }
+    {
+        self.numbers.reserved(who)
     }
 
     /// The least number that is not in use comes into use, with nothing. On an error nothing has
@@ -317,7 +331,9 @@ impl<D: Disk> Core<D> {
             IsStep self.old.numbers self.new.numbers (Reserve who need bytes)) }
         ensures given { IfOk result
             (λ given. reservation_of given ≡ reserved_next self.old.numbers need bytes) }
+        ensures unspent { OnOk result (AreSpent self.old need → ⊥) }
         ensures place { OnOk result (HasNoPlace self.old.tail.ring bytes → ⊥) }
+        ensures promised { OnOk result (HasPromised self.old.tail self.new.tail who (want bytes)) }
         ensures rest { OnOk result (self.new ≡ record self.old {
           numbers = self.new.numbers;
           tail = self.new.tail;
@@ -342,6 +358,7 @@ impl<D: Disk> Core<D> {
     pub fn rollback(&mut self, who: u32)
         requires { IsUsed self.old.numbers who }
         ensures step { IsStep self.old.numbers self.new.numbers (RollBack who) }
+        ensures given_back { HasCancelled self.old.tail self.new.tail who }
         ensures rest { self.new ≡ record self.old {
           numbers = self.new.numbers;
           tail = self.new.tail;
@@ -360,6 +377,8 @@ impl<D: Disk> Core<D> {
         ensures number { result ≡ commit_now self.old.numbers + 1 }
         ensures step { IsStepBy self.old.numbers self.new.numbers
             (Commit who (numbered_entry result prepared.entry) (arc_value prepared.batch)) }
+        ensures appended { HasAppended self.old.tail self.new.tail who result
+            (record_bytes (TransactionRecord result (arc_value prepared.batch))) }
         ensures rest { self.new ≡ record self.old {
           numbers = self.new.numbers;
           tail = self.new.tail;
@@ -379,7 +398,13 @@ impl<D: Disk> Core<D> {
     pub fn pad_tail(&mut self) -> u64
         ensures padded { self.new.tail.ring ≡ padded self.old.tail.ring }
         ensures number { result ≡ number (next_place self.new.tail.ring) }
-        ensures rest { self.new ≡ record self.old { tail = self.new.tail } }
+        ensures queue { (queue : List Queued)
+            → HoldsQueue self.old.tail.ring self.old.tail.pool queue
+            → HoldsQueue self.new.tail.ring self.new.tail.pool
+            (queue ++ padding self.old.tail.ring) }
+        ensures rest { self.new ≡ record self.old {
+          tail = record self.old.tail { ring = self.new.tail.ring; pool = self.new.tail.pool };
+        } }
     {
         self.tail.pad()
     }
@@ -389,9 +414,20 @@ impl<D: Disk> Core<D> {
     pub fn write_tail(&mut self, before: u64) -> Result<Wrote, DiskFailed>
         ensures answer { IfOk result (λ w. w ≡ wrote (next_block self.old.tail.ring before)) }
         ensures nothing { result ≡ Ok (wrote None) → self.new ≡ self.old }
-        ensures written { (sequence : ℕ) → result ≡ Ok (wrote (Some sequence)) →
-            self.new.tail.ring ≡ without_first self.old.tail.ring }
+        ensures first { (sequence : ℕ) → next_block self.old.tail.ring before ≡ Some sequence
+            → WritesFirst self.old.tail.ring self.new.tail.ring
+            self.old.tail.pool self.new.tail.pool
+            (D.seen self.old.disk) (D.seen self.new.disk) sequence result }
+        ensures written { (sequence : ℕ) → result ≡ Ok (wrote (Some sequence))
+            → HasWrittenOne self.old.tail self.new.tail }
         ensures fault { OnErr result (self.new.tail ≡ self.old.tail) }
+        ensures count { (sequence : ℕ) → next_block self.old.tail.ring before ≡ Some sequence
+            → IsStep self.old.numbers self.new.numbers (Count (D.seen self.new.disk).faults) }
+        ensures rest { self.new ≡ record self.old {
+          disk = self.new.disk;
+          numbers = self.new.numbers;
+          tail = self.new.tail;
+        } }
         ensures disk { HasCalled (D.seen self.old.disk) (D.seen self.new.disk) (is_ok result) }
     {
         match self.tail.write_next(&mut self.disk, before) {
@@ -419,7 +455,14 @@ impl<D: Disk> Core<D> {
         }) }
         ensures settled { OnOk result
             (settled_upto self.new.numbers.kept self.new.numbers.notes ≡ self.old.tail.done) }
-        ensures tail { self.new.tail ≡ self.old.tail }
+        ensures marked { OnOk result (HasMarked self.old.numbers self.new.numbers
+            (D.seen self.new.disk).faults self.old.tail.done (D.seen self.new.disk).calls) }
+        ensures fault { OnErr result (IsStep self.old.numbers self.new.numbers
+            (Count (D.seen self.new.disk).faults)) }
+        ensures rest { self.new ≡ record self.old {
+          disk = self.new.disk;
+          numbers = self.new.numbers;
+        } }
         ensures disk { HasFlushed (D.seen self.old.disk) (D.seen self.new.disk) (is_ok result) }
     {
         if let Err(fault) = self.disk.flush() {
