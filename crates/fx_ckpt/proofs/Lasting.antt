@@ -1,5 +1,5 @@
 -- The start of a stream, and the superblock to come, while blocks are closed.
-use Rattle.std.proofs.Common.{◌≡◌, ℕ, ◌+◌, ◌≤◌, List, ◌++◌, length, drop, sym, ◌∙◌, ap, arith}
+use Rattle.std.proofs.Common.{◌≡◌, ℕ, List, ◌++◌, drop, sym, ◌∙◌, ap, arith}
 use Rattle.std.specs.Prelude.{Some, None}
 use Rattle.std.proofs.lemmas.List.{drop-append-le, length-append}
 use Rattle.fx_jblock.specs.declared.Start.{Start}

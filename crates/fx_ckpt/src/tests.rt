@@ -7,7 +7,7 @@ use fx_disk::Disk;
 use fx_disks::MemDisk;
 use fx_jblock::Start;
 use fx_layfile::Block;
-use fx_super::{Super, Which, decode_super, first_super};
+use fx_super::{Super, Which, decode_super, encode_super, first_super};
 use std::alloc::{AllocError, Global};
 use std::test::Fail;
 
@@ -142,6 +142,41 @@ fn the_superblock_fails(rt: HostRuntime) -> Result<(), Fail> {
 #[test]
 fn the_last_flush_fails(rt: HostRuntime) -> Result<(), Fail> {
     assert_eq!(rt; switched(rt.alloc(), 4)?, (1, 2));
+    Ok(())
+}
+
+/// Tears the last write of a superblock: of block 1 only the first `kept` bytes are the new ones.
+fn tear(disk: &mut MemDisk, kept: usize) {
+    let mut block = zero_block();
+    if disk.blocks() < 2 || disk.read(1, &mut block).is_err() {
+        return;
+    }
+    for byte in block.iter_mut().skip(kept) {
+        *byte = 0;
+    }
+    let _written = disk.write(1, &block);
+}
+
+/// The generations that a stop before the last flush leaves in the two superblocks, where the new one
+/// has so many bytes.
+fn stopped(alloc: Global, kept: usize) -> Result<(u64, u64), AllocError> {
+    let (ckpt, mut disk, _) = begun(alloc, 9)?;
+    let mut block = zero_block();
+    encode_super(&first_super(1088, 256), &mut block);
+    if disk.blocks() < 2 || disk.write(0, &block).is_err() {
+        return Err(AllocError);
+    }
+    let (ckpt, _) = settled(ckpt, &mut disk);
+    let (_ckpt, _) = put(ckpt, &mut disk);
+    tear(&mut disk, kept);
+    Ok((generation_at(&mut disk, 0), generation_at(&mut disk, 1)))
+}
+
+#[test]
+fn a_stop_at_the_superblock_leaves_one_of_the_two(rt: HostRuntime) -> Result<(), Fail> {
+    assert_eq!(rt; stopped(rt.alloc(), 0)?, (1, 0));
+    assert_eq!(rt; stopped(rt.alloc(), 100)?, (1, 0));
+    assert_eq!(rt; stopped(rt.alloc(), 4096)?, (1, 2));
     Ok(())
 }
 
