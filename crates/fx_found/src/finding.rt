@@ -54,7 +54,7 @@ pub struct Found {
     pub numbers: ImageNumbers,
 }
 
-/// FindsImage what an image with contents holds, and that it is sound; or the first fault that holds of it,
+/// Finds what an image with contents holds, and that it is sound; or the first fault that holds of it,
 /// in the order of `FindFault`. Any image has an answer.
 ///
 /// `Device` comes only where the disk's count of faults rose, and nothing else comes there. The disk

@@ -11,7 +11,7 @@ use fx_merge::drain;
 use std::alloc::{AllocError, Global};
 
 /// What the levels say together, in order and without tombstones. Costs the items, and for each the
-/// logarithm of the levels. More than 2^32 of them are told as want of memory.
+/// logarithm of the levels. 2^32 or more of them are told as want of memory.
 pub(crate) fn standing(alloc: Global, set: &LayerSet<Layer>) -> Result<Items, AllocError>
     ensures items { IfOk result (λ items. StandInLevels set.now.levels (items_of items)) }
     ensures few { IfOk result (λ items. length items < 2 ^ 32) }
