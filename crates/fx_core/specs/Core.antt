@@ -1,8 +1,8 @@
 -- What is seen of a mounted core.
-use Rattle.std.specs.Prelude.{◌≡◌, ◌⊎◌, ℕ, ◌+◌, ◌<◌, ◌≤◌, List, [], length, reverse, replicate, get_or, set}
+use Rattle.std.specs.Prelude.{IfSome, ◌≡◌, ◌⊎◌, ℕ, ◌+◌, ◌<◌, ◌≤◌, List, [], length, reverse, replicate, get_or, set}
 use Rattle.fx_item.specs.Item.{PlainItem}
 use Rattle.fx_item.specs.declared.space.Need.{Need}
-use Rattle.fx_plain.specs.Tree.{Tree}
+use Rattle.fx_plain.specs.Tree.{Tree, root}
 use Rattle.fx_disk.specs.Record.{DiskRecord}
 use Rattle.fx_journal.specs.Ring.{Appended, Cancels, HoldsQueue, Promises, Queued, RingState, live, want, without_first}
 use Rattle.fx_record.specs.Record.{TransactionRecord, record_bytes}
@@ -10,7 +10,7 @@ use Rattle.fx_history.specs.declared.entry.Entry.{Entry}
 use Rattle.fx_events.specs.Notes.{history_in, settled_upto}
 use Rattle.fx_image.specs.Standing.{StandsFor, Transactions, items_after, lists_of}
 use Rattle.fx_image.specs.Prefix.{KeepsPrefix}
-use Rattle.fx_log.specs.Chosen.{start_of}
+use Rattle.fx_log.specs.Chosen.{next_generation, start_of}
 use Rattle.fx_log.specs.Raising.{ChoosesNext, ChoosesSince}
 use Rattle.fx_parts.specs.Happening.{Count, Mark}
 use Rattle.fx_numbers.specs.State.{IsOpened, IsStep, NumbersState, lists_in}
@@ -22,10 +22,12 @@ use Rattle.fx_namespace.specs.Nodes.{NodeId}
 use Rattle.fx_disk.specs.Seen.{DiskSeen}
 use Rattle.fx_pool.specs.Region.{Region}
 use Rattle.fx_super.specs.Super.{Fields}
+use Rattle.fx_super.specs.Chosen.{other}
+use Rattle.fx_super.specs.declared.choice.Which.{Which}
 use Rattle.fx_jblock.specs.declared.Start.{Start}
 use Rattle.fx_journal.specs.declared.stream.StreamBlock.{StreamBlock}
-use Rattle.fx_supers.specs.Supers.{Supers}
-use Rattle.fx_image.specs.Journal.{max_given, new_journal}
+use Rattle.fx_supers.specs.Supers.{Supers, only_supers}
+use Rattle.fx_image.specs.Journal.{IsOnDisk, max_given, new_journal}
 use Rattle.fx_image.specs.Mounted.{IsMounted}
 use Rattle.fx_parts.specs.Live.{IsUnusedNode, live_in_lists}
 use Rattle.fx_parts.specs.Parts.{IsNotGiven, Part}
@@ -207,6 +209,13 @@ pub record IsFoundFirst (seen : DiskSeen) (f : Fields) (found : Found) : Type 0 
   pub stores : found.stores ≡ f.next_store
   pub faults : found.faults ≡ seen.faults
   pub ring : found.ring ≡ f.ring
+
+-- Where the disk tells its bytes, the journal that begins there is on it: this superblock was chosen at
+-- its place, and its next generation was written to the other one.
+pub record IsFirstDisk (seen : DiskSeen) (f : Fields) : Type 0 where
+  pub which : Which
+  pub on_disk : IfSome seen.told (IsOnDisk (new_journal seen.size seen.calls root f.base f []
+      (start_of f) [] (only_supers (next_generation f) (other which))))
 
 -- The ring goes on from the superblock's place, under the next generation, and has nothing.
 abbrev pub IsFirstRing : Fields → RingState → Type 0

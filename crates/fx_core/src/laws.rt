@@ -1,5 +1,5 @@
 //! Laws of the shared state and its journal, for those who prove. The functions do nothing.
-ghost use Rattle.std.specs.Prelude.{◌≡◌, ℕ, ◌+◌, ◌<◌, ◌≤◌, ◌^◌, IfSome, List, None, [], length, reverse};
+ghost use Rattle.std.specs.Prelude.{◌≡◌, ℕ, ◌+◌, ◌<◌, ◌≤◌, ◌^◌, IfSome, List, [], length, reverse};
 ghost use Rattle.fx_item.specs.Item.{PlainItem};
 ghost use Rattle.fx_item.specs.Look.{next_id, next_id_after, next_store, next_store_after};
 ghost use Rattle.fx_plain.specs.Bare.{bare};
@@ -10,7 +10,7 @@ ghost use Rattle.fx_layerset.specs.Levels.{SetLevels};
 ghost use Rattle.fx_log.specs.Chosen.{layers_of, next_generation};
 ghost use Rattle.fx_numbers.specs.State.{lists_in};
 ghost use Rattle.fx_numbers.specs.declared.given.Found.{Found};
-ghost use Rattle.fx_core.specs.Core.{BeginsCore, IsFirstRing, IsFoundFirst};
+ghost use Rattle.fx_core.specs.Core.{BeginsCore, IsFirstDisk, IsFirstRing, IsFoundFirst};
 ghost use Rattle.fx_core.specs.Tail.{HasRingBuffers};
 ghost use Rattle.fx_jblock.specs.declared.Start.{Start};
 ghost use Rattle.fx_journal.specs.Ring.{Queued, RingState};
@@ -92,11 +92,12 @@ pub fn logged_laws()
         s.mounted.tree s.mounted.kept (history_in s.notes)) }
 {}
 
-/// A core can begin: on a disk that tells nothing of its bytes, under any superblock without layers
-/// whose next generation keeps the rules, with the ring that goes on from its place and no item.
+/// A core can begin on an image without transactions: under any superblock without layers, with the
+/// ring that goes on from its place and no item, on a disk that has the journal that begins there, or
+/// tells nothing of its bytes.
 pub fn first_core_law()
     ensures { (seen : DiskSeen) (f : Fields) (found : Found) (levels : SetLevels)
-        (ring : RingState) (pool : Region) → seen.told ≡ None → KeepsRules f
+        (ring : RingState) (pool : Region) → IsFirstDisk seen f → KeepsRules f
         → KeepsRules (next_generation f) → f.blocks ≡ seen.size → layers_of f ≡ []
         → HasSessionRoom f [] → IsFoundFirst seen f found → lists_in levels ≡ []
         → IsFirstRing f ring → HasRingBuffers ring pool
